@@ -1,0 +1,14 @@
+//! The outside: a clock, disks, a source of bytes and a sink for bytes, by what a contract may say of them.
+#![tactic(auto)]
+
+mod clock;
+mod disk;
+mod failed;
+mod sink;
+mod source;
+
+pub use clock::Clock;
+pub use disk::Disk;
+pub use failed::Failed;
+pub use sink::Sink;
+pub use source::Source;
