@@ -1,0 +1,14 @@
+//! The real outside: a file as a disk, a reader as a source, a writer as a sink. They tell nothing of their content, and
+//! count each error of the system and each failure of their own.
+#![tactic(auto)]
+
+mod file_disk;
+mod stdin;
+mod stdout;
+
+pub use file_disk::FileDisk;
+pub use stdin::Stdin;
+pub use stdout::Stdout;
+
+#[cfg(test)]
+mod tests;
