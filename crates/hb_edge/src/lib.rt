@@ -4,11 +4,13 @@
 mod clock;
 mod disk;
 mod failed;
+mod fused;
 mod sink;
 mod source;
 
 pub use clock::Clock;
 pub use disk::Disk;
 pub use failed::Failed;
+pub use fused::Fused;
 pub use sink::Sink;
 pub use source::Source;
