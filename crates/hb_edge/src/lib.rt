@@ -7,6 +7,8 @@ mod failed;
 mod fused;
 mod sink;
 mod source;
+#[cfg(test)]
+mod tests;
 
 pub use clock::Clock;
 pub use disk::Disk;
