@@ -1,6 +1,6 @@
 -- A disk that stands over another, whose last moment may be a later one.
-use Rattle.std.specs.Prelude.{◌≡◌, ℕ, ◌+◌, ◌-◌, ◌^◌, ◌<◌, ◌≤◌, max, min, Option, Some, None, IfSome, Result, Ok, Err, OnErr}
-use Rattle.std.proofs.Common.{arith, subst}
+use Rattle.std.specs.Prelude.{◌≡◌, ℕ, ◌+◌, ◌≤◌, max, Option, Some, None, IfSome, Result, Ok, Err, OnErr}
+use Rattle.std.proofs.Common.{arith}
 use Rattle.hb_edge.specs.Causes.{risen, HasCause, Rose}
 use Rattle.hb_edge.specs.Images.{Image}
 use Rattle.hb_edge.specs.Stops.{Passes}

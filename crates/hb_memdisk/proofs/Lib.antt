@@ -1,1 +1,2 @@
 mod Patching
+mod Taking

@@ -1,8 +1,8 @@
 -- Laws of the calls that a disk in memory keeps: what it reads, kept or filled is one of its images, and one call more.
-use Rattle.std.specs.Prelude.{◌≡◌, ◌⊎◌, ℕ, ◌<◌, ◌≤◌, max, List, [], ◌∷◌, length, take, replicate, refl}
+use Rattle.std.specs.Prelude.{◌≡◌, ℕ, ◌<◌, ◌≤◌, max, List, [], ◌∷◌, length, replicate, refl}
 use Rattle.std.proofs.Common.{inl, inr, sym, subst, arith}
 use Rattle.std.proofs.lemmas.List.{length-replicate}
-use Rattle.hb_edge.specs.Images.{Image, patched, Torn, Cut, Same}
+use Rattle.hb_edge.specs.Images.{Image, patched, Torn, Same}
 use Rattle.hb_edge.specs.ImageLaws.{torn_patched, torn_written, cut_taken, torn_undone, cut_undone}
 use Rattle.hb_edge.specs.Stops.{Passes}
 use Rattle.hb_memdisk.specs.declared.call.Call.{Call}

@@ -1,12 +1,12 @@
 -- What a disk in memory means.
 use Rattle.std.specs.Prelude.{◌≡◌, ◌⊎◌, ℕ, ◌+◌, ◌-◌, ◌≤◌, Bool, true, false, ◌==◌, ◌&&◌, nat_lt, if◌then◌else◌, List, reverse, Option, Some, Result, OnOk, OnErr, unwrap_or, slice_index_or}
-use Rattle.std.specs.List.{list_any}
 use Rattle.std.proofs.Common.{sym, subst, arith}
 use Rattle.hb_edge.specs.Causes.{risen, Rose}
 use Rattle.hb_edge.specs.Images.{Image}
 use Rattle.hb_memdisk.specs.declared.call.Noted.{Noted}
 use Rattle.hb_memdisk.specs.declared.memdisk.MemDisk.{MemDisk}
-use Rattle.hb_memdisk.specs.Calls.{reads, settled, filled, images, leaves, newest}
+use Rattle.hb_memdisk.specs.Calls.{settled, filled, images, leaves}
+use Rattle.hb_memdisk.specs.Listed.{is_listed}
 use Rattle.hb_memdisk.specs.CallLaws.{reads_may, settled_may, filled_may, images_leaves, leaves_images}
 
 -- the calls that are kept, the newest first
@@ -39,10 +39,6 @@ pub record SameCounts (old new : MemDisk) : Type 0 where
   pub picks : new.picks ≡ old.picks
   pub failed : new.failed ≡ old.failed
   pub short : new.short ≡ old.short
-
--- a call with this number is to fail
-abbrev pub is_listed : ℕ → List ℕ → Bool
-is_listed number failing = list_any (λ k. k == number) failing
 
 -- One call: it is counted, and it fails exactly where its number is listed or it found no memory for its notes.
 pub record Asks {T E : Type 0} (old new : MemDisk) (result : Result T E) : Type 0 where

@@ -4,5 +4,11 @@
 mod call;
 mod memdisk;
 mod replay;
+mod sink;
+mod source;
+#[cfg(test)]
+mod tests;
 
 pub use memdisk::MemDisk;
+pub use sink::MemSink;
+pub use source::MemSource;

@@ -34,7 +34,8 @@ pub struct MemDisk {
 }
 
 impl MemDisk {
-    ghost use Rattle.hb_memdisk.specs.MemDisk.{content_of, left_of, is_listed};
+    ghost use Rattle.hb_memdisk.specs.Listed.{is_listed};
+    ghost use Rattle.hb_memdisk.specs.MemDisk.{content_of, left_of};
 
     /// The calls whose numbers, from 1, are listed fail. The k-th restart that succeeds leaves what the k-th pick says, or
     /// the pick 0 when they are spent: 0 what the last sync left, 1 all writes made, 2 + v all pending bytes filled with v

@@ -79,7 +79,13 @@ fn become_these(image: &mut Vec<u8>, bytes: &[u8]) -> Result<(), NoMemory>
 }
 
 // What a call leaves where all that it leaves pending is filled.
-fn fill_call(alloc: Global, image: &mut Vec<u8>, read: &[u8], call: &Call, v: u8) -> Result<(), NoMemory>
+fn fill_call(
+    alloc: Global,
+    image: &mut Vec<u8>,
+    read: &[u8],
+    call: &Call,
+    v: u8,
+) -> Result<(), NoMemory>
     ensures { OnOk result (image.new.items ≡ filled_by v call.now read.now image.old.items) }
 {
     match call {

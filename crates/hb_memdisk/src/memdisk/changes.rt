@@ -21,7 +21,14 @@ fn taken(alloc: Global, changed: &mut Option<Bytes>, first: &Bytes) -> Result<Ve
     }
 }
 
-fn write_noted(calls: &mut Vec<Noted>, image: &mut Vec<u8>, moment: u128, at: u64, bytes: &[u8], kept: Bytes) -> Result<(), NoMemory>
+fn write_noted(
+    calls: &mut Vec<Noted>,
+    image: &mut Vec<u8>,
+    moment: u128,
+    at: u64,
+    bytes: &[u8],
+    kept: Bytes,
+) -> Result<(), NoMemory>
     requires { kept ≡ bytes.now }
     ensures calls { OnOk result (reverse calls.new.items ≡ record { at = moment; call = Write at bytes.now } ∷ reverse calls.old.items) }
     ensures image { OnOk result (image.new.items ≡ written at bytes.now image.old.items) }

@@ -1,5 +1,4 @@
-use Rattle.std.proofs.Common.{◌≡◌, ◌+◌, ◌-◌, ◌++◌, length, take, drop, replicate, sym, ◌∙◌, ap, rules}
-use Rattle.hb_edge.specs.Images.{patched}
+use Rattle.std.proofs.Common.{◌+◌, ◌++◌, length, take, drop, ◌∙◌, ap, rules}
 use Rattle.hb_memdisk.proofs.Patching.{patch_in_place, written_back}
 use Rattle.hb_memdisk.proofs.replay.patch.Goals as goal
 

@@ -1,8 +1,8 @@
-use Rattle.std.proofs.Common.{◌≡◌, max, false, ap, subst, refl, sym, length}
+use Rattle.std.proofs.Common.{ap, subst, sym}
 use Rattle.hb_edge.specs.Fuses.{last_of}
-use Rattle.hb_edge.specs.Images.{Torn, Cut}
+use Rattle.hb_edge.specs.Images.{Cut}
 use Rattle.hb_edge.specs.Stops.{Passes}
-use Rattle.hb_edge.specs.ImageLaws.{torn_undone, cut_undone}
+use Rattle.hb_edge.specs.ImageLaws.{cut_undone}
 use Rattle.hb_edge.specs.Wrapping.{own_failure, passes_over, stands_later}
 use Rattle.hb_edge.proofs.fused.FusedDisk.cut.Goals as goal
 

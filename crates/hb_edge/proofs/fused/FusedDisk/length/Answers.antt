@@ -1,8 +1,5 @@
-use Rattle.std.proofs.Common.{◌≡◌, false, ap, subst, refl, sym, length}
-use Rattle.hb_edge.specs.Images.{Torn, Cut}
-use Rattle.hb_edge.specs.Stops.{Passes}
-use Rattle.hb_edge.specs.ImageLaws.{torn_undone, cut_undone}
-use Rattle.hb_edge.specs.Wrapping.{own_failure, passes_over, stands_later}
+use Rattle.std.proofs.Common.{ap}
+use Rattle.hb_edge.specs.Wrapping.{own_failure}
 use Rattle.hb_edge.proofs.fused.FusedDisk.length.Goals as goal
 
 pub returns-else-passes-clause-cause : goal.returns-else-passes-clause-cause

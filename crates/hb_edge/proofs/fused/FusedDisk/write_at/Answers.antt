@@ -1,8 +1,8 @@
-use Rattle.std.proofs.Common.{◌≡◌, max, false, ap, subst, refl, sym, length}
+use Rattle.std.proofs.Common.{ap, subst, sym, length}
 use Rattle.hb_edge.specs.Fuses.{last_of}
-use Rattle.hb_edge.specs.Images.{Torn, Cut}
+use Rattle.hb_edge.specs.Images.{Torn}
 use Rattle.hb_edge.specs.Stops.{Passes}
-use Rattle.hb_edge.specs.ImageLaws.{torn_undone, cut_undone}
+use Rattle.hb_edge.specs.ImageLaws.{torn_undone}
 use Rattle.hb_edge.specs.Wrapping.{own_failure, passes_over, stands_later}
 use Rattle.hb_edge.proofs.fused.FusedDisk.write_at.Goals as goal
 

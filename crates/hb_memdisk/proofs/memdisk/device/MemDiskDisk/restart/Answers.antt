@@ -1,7 +1,5 @@
 use Rattle.std.proofs.Common.{◌≡◌, ◌∙◌, ◌∷◌, sym, ap, subst, reverse, rules}
 use Rattle.hb_memdisk.specs.declared.call.Call.TheVariants.{Restart}
-use Rattle.hb_memdisk.specs.declared.call.Noted.{Noted}
-use Rattle.hb_memdisk.specs.Calls.{images}
 use Rattle.hb_memdisk.specs.CallLaws.{images_leaves, settles_to}
 use Rattle.hb_memdisk.specs.MemDisk.{calls_of, content_of, left_of, next_pick, picked, picked_may}
 use Rattle.hb_memdisk.proofs.memdisk.device.MemDiskDisk.restart.Goals as goal

@@ -1,6 +1,5 @@
 use Rattle.std.proofs.Common.{◌≡◌, ◌∙◌, ◌∷◌, ap, reverse, rules}
 use Rattle.hb_memdisk.specs.declared.call.Call.TheVariants.{Settle}
-use Rattle.hb_memdisk.specs.declared.call.Noted.{Noted}
 use Rattle.hb_memdisk.specs.CallLaws.{reads_may, settles_to}
 use Rattle.hb_memdisk.specs.MemDisk.{calls_of}
 use Rattle.hb_memdisk.proofs.memdisk.device.MemDiskDisk.sync.Goals as goal
