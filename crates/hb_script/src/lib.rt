@@ -1,6 +1,7 @@
 //! Scripts: their lines taken from a source in pieces, what each line asks, and the texts of replies.
 #![tactic(auto)]
 
+mod cut;
 mod fault;
 mod line;
 mod reader;

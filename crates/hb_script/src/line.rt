@@ -3,8 +3,9 @@ ghost use Rattle.std.specs.Prelude.{◌≡◌, ◌≤◌, length, IfOk, IfSome};
 ghost use Rattle.std.specs.Option.{option_map};
 ghost use Rattle.std.specs.List.{list_all};
 ghost use Rattle.hb_table.specs.Orders.{Asks, is_alphanumeric as alphanumeric};
-ghost use Rattle.hb_table.proofs.OrderOf.{strip, cut_at, natural_of, integer_of, number_of, is_text as text_of, row_of, order_of};
+ghost use Rattle.hb_table.proofs.OrderOf.{natural_of, integer_of, number_of, is_text as text_of, row_of, order_of};
 
+use crate::cut::{split_at_byte, strip_front};
 use hb_table::Order;
 use hb_types::{NoMemory, Text};
 use std::alloc::Global;
@@ -12,30 +13,6 @@ use std::alloc::Global;
 const INSERT: &[u8] = b"s1: INSERT INTO T VALUES (";
 
 const SELECT: &[u8] = b"s1: SELECT * FROM T";
-
-/// What stands before the first such byte, and what stands behind it.
-#[tactic(auto, using(crate::proofs::CutLemmas::cut_here, crate::proofs::CutLemmas::cut_more, crate::proofs::CutLemmas::cut_start, crate::proofs::CutLemmas::cut_none))]
-fn split_at_byte(bytes: &[u8], byte: u8) -> Option<(&[u8], &[u8])>
-    ensures { option_map (λ p. (p.0.now, p.1.now)) result ≡ cut_at byte bytes.now }
-{
-    for (i, b) in bytes.iter().enumerate() {
-        if *b == byte {
-            return Some((&bytes[..i], &bytes[i + 1..]));
-        }
-    }
-    None
-}
-
-/// What follows a front.
-fn strip_front<'a>(bytes: &'a [u8], front: &[u8]) -> Option<&'a [u8]>
-    ensures { option_map (λ p. p.now) result ≡ strip front.now bytes.now }
-{
-    if bytes.starts_with(front) {
-        Some(&bytes[front.len()..])
-    } else {
-        None
-    }
-}
 
 /// The number that 1 to 10 digits stand for.
 fn natural(digits: &[u8]) -> Option<u64>

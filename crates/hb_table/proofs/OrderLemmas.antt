@@ -1,5 +1,5 @@
 -- The computed order is what the line asks, and no other is.
-use Rattle.std.proofs.Common.{◌≡◌, ◌≢◌, ℕ, Bool, true, false, List, [], ◌∷◌, ◌++◌, length, drop, ℤ, refl, sym, ◌∙◌, ap, subst, arith, append_assoc, length-append}
+use Rattle.std.proofs.Common.{◌<◌, ◌≤◌, ◌≡◌, ◌≢◌, ℕ, Bool, true, false, List, [], ◌∷◌, ◌++◌, length, drop, ℤ, refl, sym, ◌∙◌, ap, subst, arith, append_assoc, length-append}
 use Rattle.std.specs.Prelude.{Option, Some, None, if◌then◌else◌, nat_eq, nat_le, codes, ◌&&◌, ◌==◌}
 use Rattle.std.specs.List.{starts_with, list_all}
 use Rattle.std.proofs.lemmas.Bool.{and_parts, and_from, leb-true, le-leb, eqb-true}
@@ -7,7 +7,7 @@ use Rattle.std.proofs.lemmas.Bool.Decides.{nat_tests}
 use Rattle.std.proofs.lemmas.List.{append-nil}
 use Rattle.hb_table.specs.declared.order.Order.{Order}
 use Rattle.hb_table.specs.declared.order.Order.TheVariants.{Insert, Select, NotBuilt}
-use Rattle.hb_table.specs.Orders.{IsText, Inserts, Selects, Asks, is_alphanumeric}
+use Rattle.hb_table.specs.Orders.{IsText, IsNumeral, sign, Inserts, Selects, Asks, is_alphanumeric}
 use Rattle.hb_table.proofs.OrderOf.{strip, cut_at, number_of, is_text, ◌>>=◌, insert_front, row_where, closing, texted, behind_comma, keyed, row_of, select_line, inserting, is_select, order_of}
 use Rattle.hb_table.proofs.SplitLemmas.{bind_some, starts, strip_sound, strip_complete, cut_sound, cut_complete, all_sound, all_complete, all_other}
 use Rattle.hb_table.proofs.NumeralLemmas.{number_sound, number_complete, no_comma}
@@ -133,3 +133,20 @@ order_at line false (Some found) NotBuilt test row asks = absurd (asks.1 found.0
 pub order_is : (line : List ℕ) (order : Order) → Asks line order → order_of line ≡ order
 unfolding order_of
 order_is line order asks = order_at line (is_select line) (row_of line) order refl refl asks
+
+-- ---- long lines
+
+numeral_length : (bytes : List ℕ) (key : ℤ) → IsNumeral bytes key → length bytes ≤ 11
+numeral_length bytes key is = omega (arith, ap length is.spelled, length-append (sign is.minus) is.digits, is.few, sign_length is.minus)
+  where
+    sign_length : (minus : Bool) → length (sign minus) ≤ 1
+    sign_length true = omega arith
+    sign_length false = omega arith
+
+insert_length : (line : List ℕ) (key : ℤ) (text : List ℕ) → Inserts line key text → length line ≤ 62
+insert_length line key text is =
+    let front : List ℕ = insert_front ++ is.numeral in
+    omega (arith, ap length is.spelled, length-append (front ++ codes ", '" ++ text) (codes "')"), length-append (front ++ codes ", '") text, length-append front (codes ", '"), length-append insert_front is.numeral, numeral_length is.numeral key is.is_numeral, is.is_text.few)
+
+pub long_asks_nothing : (line : List ℕ) → 62 < length line → Asks line NotBuilt
+long_asks_nothing line long = ((λ selects. omega (arith, ap length selects)), (λ key text inserts. omega (arith, insert_length line key text inserts)))

@@ -73,6 +73,34 @@ pub cut_complete : (c : ℕ) (xs ys : List ℕ) → AllByRecursion (λ b. b ≢ 
 cut_complete c [] ys each = cut_front c c ys refl
 cut_complete c (x ∷ xs) ys each = cut_later c x (xs ++ c ∷ ys) each.0 ∙ ap (option_map (behind (x ∷ []))) (cut_complete c xs ys each.1)
 
+clean_behind : (c x : ℕ) (xs : List ℕ) → x ≢ c → ((p : List ℕ × List ℕ) → cut_at c xs ≡ Some p → AllByRecursion (λ b. b ≢ c) p.0) → (parts : List ℕ × List ℕ) (o : Option (List ℕ × List ℕ)) → cut_at c xs ≡ o → option_map (behind (x ∷ [])) o ≡ Some parts → AllByRecursion (λ b. b ≢ c) parts.0
+clean_behind c x xs other below parts None so is = absurd (cc)
+clean_behind c x xs other below parts (Some p) so is =
+    let same : (x ∷ p.0, p.1) ≡ parts = cc in
+    subst (λ (q : List ℕ × List ℕ). AllByRecursion (λ b. b ≢ c) q.0) same (other, below p so)
+
+-- none stands before the first one
+pub cut_clean : (c : ℕ) (xs : List ℕ) (parts : List ℕ × List ℕ) → cut_at c xs ≡ Some parts → AllByRecursion (λ b. b ≢ c) parts.0
+cut_clean c [] parts is = let none = cut_nothing c in absurd (cc)
+cut_clean c (x ∷ xs) parts is = elim (cases_eq x c) [
+  | inl e ↦
+      let here = cut_front c x xs e in
+      let same : ([], xs) ≡ parts = cc in
+      subst (λ (p : List ℕ × List ℕ). AllByRecursion (λ b. b ≢ c) p.0) same tt
+  | inr other ↦ clean_behind c x xs other (λ p so. cut_clean c xs p so) parts (cut_at c xs) refl (sym (cut_later c x xs other) ∙ is)
+]
+
+not_behind : (x : ℕ) (o : Option (List ℕ × List ℕ)) → option_map (behind (x ∷ [])) o ≡ None → o ≡ None
+not_behind x None is = refl
+not_behind x (Some p) is = absurd (cc)
+
+pub cut_none : (c : ℕ) (xs : List ℕ) → cut_at c xs ≡ None → AllByRecursion (λ b. b ≢ c) xs
+cut_none c [] is = tt
+cut_none c (x ∷ xs) is = elim (cases_eq x c) [
+  | inl e ↦ let here = cut_front c x xs e in absurd (cc)
+  | inr other ↦ (other, cut_none c xs (not_behind x (cut_at c xs) (sym (cut_later c x xs other) ∙ is)))
+]
+
 -- ---- tests of each byte
 
 pub all_sound : (test : ℕ → Bool) (xs : List ℕ) → list_all test xs ≡ true → AllByRecursion (λ b. IsTrue (test b)) xs

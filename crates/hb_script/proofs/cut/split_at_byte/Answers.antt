@@ -2,7 +2,7 @@ use Rattle.std.proofs.Common.{◌+◌, List, ℕ, sym, ◌∙◌, ap, take}
 use Rattle.std.specs.Prelude.{Some}
 use Rattle.std.proofs.lemmas.List.{take_rest}
 use Rattle.hb_script.proofs.CutLemmas.{cut_here}
-use Rattle.hb_script.proofs.line.split_at_byte.Goals as goal
+use Rattle.hb_script.proofs.cut.split_at_byte.Goals as goal
 
 pub returns-then-b-byte : goal.returns-then-b-byte
 returns-then-b-byte c =
