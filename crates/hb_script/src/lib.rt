@@ -1,0 +1,13 @@
+//! Scripts: their lines taken from a source in pieces, what each line asks, and the texts of replies.
+#![tactic(auto)]
+
+mod cut;
+mod fault;
+mod line;
+mod reader;
+mod replies;
+
+pub use fault::ScriptFault;
+pub use line::read_line;
+pub use reader::ScriptReader;
+pub use replies::{TAKEN, inserted, lines, not_built, rows, taken};

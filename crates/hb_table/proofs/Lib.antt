@@ -1,0 +1,5 @@
+pub mod OrderOf
+pub mod SplitLemmas
+pub mod NumeralLemmas
+pub mod OrderLemmas
+pub mod LineLemmas
