@@ -1,19 +1,11 @@
 -- Steps of a search for a byte.
-use Rattle.std.proofs.Common.{◌≡◌, ◌≢◌, ℕ, ◌+◌, ◌<◌, ◌≤◌, List, [], ◌∷◌, ◌++◌, length, get_or, take, drop, refl, sym, ◌∙◌, ap, arith, append_assoc}
+use Rattle.std.proofs.Common.{◌≡◌, ◌≢◌, ℕ, ◌+◌, ◌<◌, ◌≤◌, List, [], ◌∷◌, ◌++◌, length, get_or, take, drop, refl, sym, ◌∙◌, ap, append_assoc}
 use Rattle.std.specs.Prelude.{Some, None}
 use Rattle.std.specs.Option.{option_map}
 use Rattle.std.specs.declared.option.Option.{Option}
 use Rattle.std.proofs.lemmas.List.{append-nil, drop_more, drop_all, take_more}
-use Rattle.std.proofs.lemmas.Bool.Decides.{nat_tests}
 use Rattle.hb_table.proofs.OrderOf.{behind, cut_at}
-
-pub cut_front : (c x : ℕ) (xs : List ℕ) → x ≡ c → cut_at c (x ∷ xs) ≡ Some ([], xs)
-unfolding cut_at
-cut_front c x xs e = grind (arith, nat_tests)
-
-pub cut_later : (c x : ℕ) (xs : List ℕ) → x ≢ c → cut_at c (x ∷ xs) ≡ option_map (behind (x ∷ [])) (cut_at c xs)
-unfolding cut_at
-cut_later c x xs e = grind (arith, nat_tests)
+use Rattle.hb_table.proofs.SplitLemmas.{cut_front, cut_later}
 
 behind_twice : (front : List ℕ) (x : ℕ) (o : Option (List ℕ × List ℕ)) → option_map (behind front) (option_map (behind (x ∷ [])) o) ≡ option_map (behind (front ++ x ∷ [])) o
 behind_twice front x None = refl

@@ -3,9 +3,12 @@
 
 mod cut;
 mod fault;
+mod front;
 mod line;
 mod reader;
 mod replies;
+#[cfg(test)]
+mod tests;
 
 pub use fault::ScriptFault;
 pub use line::read_line;

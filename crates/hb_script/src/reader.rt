@@ -2,14 +2,12 @@
 ghost use Rattle.std.specs.Prelude.{◌≡◌, ◌+◌, ◌<◌, ◌≤◌, ◌++◌, [], length, take, drop, IfOk, IfSome, OnOk, OnSome};
 ghost use Rattle.hb_edge.specs.Causes.{HasCause};
 ghost use Rattle.hb_edge.specs.Streams.{with_front};
-ghost use Rattle.hb_table.specs.Lines.{without_return};
-ghost use Rattle.hb_table.specs.Orders.{Asks};
 ghost use Rattle.hb_script.specs.Parts.{TakesPart};
 ghost use Rattle.hb_script.specs.Scripts.{NextOrder, HasSourceCause};
 
 use crate::ScriptFault;
 use crate::cut::split_at_byte;
-use crate::line::read_line;
+use crate::front::{keep, kept_order};
 use hb_edge::{Failed, Source};
 use hb_table::Order;
 use hb_types::NoMemory;
@@ -17,39 +15,6 @@ use std::alloc::Global;
 use std::marker::Model;
 
 const PIECE: usize = 4096;
-
-/// One more than the longest form and its carriage return have.
-const KEPT: usize = 64;
-
-/// Adds to the front of a line, of which so much is kept.
-fn keep(front: &mut Vec<u8>, bytes: &[u8]) -> Result<(), NoMemory>
-    requires { length front.old.items ≤ 64 }
-    ensures { OnOk result (front.new.items ≡ take 64 (front.old.items ++ bytes.now)) }
-{
-    let count = bytes.len().min(KEPT - front.len());
-    front.extend_from_slice(&bytes[..count])?;
-    Ok(())
-}
-
-/// Without the carriage return at the end.
-#[tactic(auto, using(crate::proofs::ReturnLemmas::return_cut, crate::proofs::ReturnLemmas::return_kept, crate::proofs::ReturnLemmas::return_none))]
-fn without_last_return(part: &[u8]) -> &[u8]
-    ensures { result.now ≡ without_return part.now }
-{
-    let count = part.len();
-    if count > 0 && part[count - 1] == b'\r' {
-        &part[..count - 1]
-    } else {
-        part
-    }
-}
-
-/// What a line asks, by its front.
-fn kept_order(alloc: Global, front: &[u8]) -> Result<Order, NoMemory>
-    ensures { IfOk result (Asks (without_return front.now)) }
-{
-    read_line(alloc, without_last_return(front))
-}
 
 /// Reads a script from a source, a piece of at most 4,096 bytes at a time. Of a line it keeps at most 64 bytes: a
 /// longer one is in none of the forms.

@@ -50,7 +50,7 @@ parts_clean (b ∷ input) = elim (cases_eq b 10) [
 
 -- ---- the carriage return
 
-return_none : without_return [] ≡ []
+pub return_none : without_return [] ≡ []
 unfolding without_return
 return_none = refl
 
@@ -76,9 +76,6 @@ pub last_other : (bytes : List ℕ) (b : ℕ) → b ≢ 13 → without_return (b
 last_other [] b other = return_kept b other
 last_other (x ∷ []) b other = return_later x b [] ∙ ap (λ (l : List ℕ). x ∷ l) (return_kept b other)
 last_other (x ∷ y ∷ bytes) b other = return_later x y (bytes ++ b ∷ []) ∙ ap (λ (l : List ℕ). x ∷ l) (last_other (y ∷ bytes) b other)
-
-pub no_return : without_return [] ≡ []
-no_return = return_none
 
 -- at most one byte is dropped
 pub return_length : (bytes : List ℕ) → length bytes ≤ length (without_return bytes) + 1

@@ -8,7 +8,7 @@ use Rattle.std.proofs.lemmas.List.{append-nil}
 use Rattle.hb_table.specs.declared.order.Order.{Order}
 use Rattle.hb_table.specs.declared.order.Order.TheVariants.{Insert, Select, NotBuilt}
 use Rattle.hb_table.specs.Orders.{IsText, IsNumeral, sign, Inserts, Selects, Asks, is_alphanumeric}
-use Rattle.hb_table.proofs.OrderOf.{strip, cut_at, number_of, is_text, ◌>>=◌, insert_front, row_where, closing, texted, behind_comma, keyed, row_of, select_line, inserting, is_select, order_of}
+use Rattle.hb_table.proofs.OrderOf.{strip, cut_at, number_of, is_text, ◌>>=◌, insert_front, row_where, row_from_end, row_from_text, row_from_quote, row_from_key, row_of, select_line, inserting, is_select, order_of}
 use Rattle.hb_table.proofs.SplitLemmas.{bind_some, starts, strip_sound, strip_complete, cut_sound, cut_complete, all_sound, all_complete, all_other}
 use Rattle.hb_table.proofs.NumeralLemmas.{number_sound, number_complete, no_comma}
 
@@ -60,10 +60,10 @@ closes text rest numeral row (Some key) number is = at_test (starts_with nat_eq 
 row_sound : (line : List ℕ) (row : ℤ × List ℕ) → row_of line ≡ Some row → Inserts line row.0 row.1
 unfolding row_of
 row_sound line row is =
-    let front = bind_some (strip insert_front line) keyed row is in
-    let key = bind_some (cut_at 44 front.0) behind_comma row front.2 in
-    let blank = bind_some (strip (codes " '") key.0.1) (texted key.0.0) row key.2 in
-    let text = bind_some (cut_at 39 blank.0) (closing key.0.0) row blank.2 in
+    let front = bind_some (strip insert_front line) row_from_key row is in
+    let key = bind_some (cut_at 44 front.0) row_from_quote row front.2 in
+    let blank = bind_some (strip (codes " '") key.0.1) (row_from_text key.0.0) row key.2 in
+    let text = bind_some (cut_at 39 blank.0) (row_from_end key.0.0) row blank.2 in
     let end = closes text.0.0 text.0.1 key.0.0 row (number_of key.0.0) refl text.2 in
     let texts : blank.0 ≡ row.1 ++ 39 ∷ codes ")" = cut_sound 39 blank.0 text.0 text.1 ∙ ap (λ (l : List ℕ). text.0.0 ++ 39 ∷ l) end.2 ∙ ap (λ (l : List ℕ). l ++ 39 ∷ codes ")") end.1 in
     let behind : key.0.1 ≡ codes " '" ++ (row.1 ++ 39 ∷ codes ")") = strip_sound (codes " '") key.0.1 blank.0 blank.1 ∙ ap (λ (l : List ℕ). codes " '" ++ l) texts in
@@ -81,11 +81,11 @@ row_complete line key text is =
     let numeral : List ℕ = is.numeral in
     let texts : List ℕ = text ++ 39 ∷ codes ")" in
     let rest : List ℕ = numeral ++ 44 ∷ (codes " '" ++ texts) in
-    ap (λ (l : List ℕ). strip insert_front l >>= keyed) (is.spelled ∙ spelled_so numeral text)
-    ∙ ap (λ (o : Option (List ℕ)). o >>= keyed) (strip_complete insert_front rest)
-    ∙ ap (λ (o : Option (List ℕ × List ℕ)). o >>= behind_comma) (cut_complete 44 numeral (codes " '" ++ texts) (no_comma numeral key is.is_numeral))
-    ∙ ap (λ (o : Option (List ℕ)). o >>= texted numeral) (strip_complete (codes " '") texts)
-    ∙ ap (λ (o : Option (List ℕ × List ℕ)). o >>= closing numeral) (cut_complete 39 text (codes ")") (all_other is_alphanumeric 39 text no_apostrophe is.is_text.each))
+    ap (λ (l : List ℕ). strip insert_front l >>= row_from_key) (is.spelled ∙ spelled_so numeral text)
+    ∙ ap (λ (o : Option (List ℕ)). o >>= row_from_key) (strip_complete insert_front rest)
+    ∙ ap (λ (o : Option (List ℕ × List ℕ)). o >>= row_from_quote) (cut_complete 44 numeral (codes " '" ++ texts) (no_comma numeral key is.is_numeral))
+    ∙ ap (λ (o : Option (List ℕ)). o >>= row_from_text numeral) (strip_complete (codes " '") texts)
+    ∙ ap (λ (o : Option (List ℕ × List ℕ)). o >>= row_from_end numeral) (cut_complete 39 text (codes ")") (all_other is_alphanumeric 39 text no_apostrophe is.is_text.each))
     ∙ ap (row_where text (codes ")")) (number_complete numeral key is.is_numeral)
     ∙ ap (λ (b : Bool). if b then Some (key, text) else None) (text_complete text is.is_text)
 

@@ -54,23 +54,23 @@ abbrev pub row_where : List ℕ → List ℕ → Option ℤ → Option (ℤ × L
 row_where text rest (Some key) = if starts_with nat_eq rest (codes ")") && ((length rest == 1) && is_text text) then Some (key, text) else None
 row_where text rest None = None
 
--- behind the text, its apostrophe last
-abbrev pub closing : List ℕ → List ℕ × List ℕ → Option (ℤ × List ℕ)
-closing numeral text = row_where text.0 text.1 (number_of numeral)
+-- the row, of which the numeral, the text and what stands behind it are known
+abbrev pub row_from_end : List ℕ → List ℕ × List ℕ → Option (ℤ × List ℕ)
+row_from_end numeral text = row_where text.0 text.1 (number_of numeral)
 
--- behind the numeral and its comma
-abbrev pub texted : List ℕ → List ℕ → Option (ℤ × List ℕ)
-texted numeral rest = cut_at 39 rest >>= closing numeral
+-- the row, from its text on
+abbrev pub row_from_text : List ℕ → List ℕ → Option (ℤ × List ℕ)
+row_from_text numeral rest = cut_at 39 rest >>= row_from_end numeral
 
-abbrev pub behind_comma : List ℕ × List ℕ → Option (ℤ × List ℕ)
-behind_comma parts = strip (codes " '") parts.1 >>= texted parts.0
+abbrev pub row_from_quote : List ℕ × List ℕ → Option (ℤ × List ℕ)
+row_from_quote parts = strip (codes " '") parts.1 >>= row_from_text parts.0
 
-abbrev pub keyed : List ℕ → Option (ℤ × List ℕ)
-keyed rest = cut_at 44 rest >>= behind_comma
+abbrev pub row_from_key : List ℕ → Option (ℤ × List ℕ)
+row_from_key rest = cut_at 44 rest >>= row_from_quote
 
 -- the key and the text
 unfoldable pub row_of : List ℕ → Option (ℤ × List ℕ)
-row_of line = strip insert_front line >>= keyed
+row_of line = strip insert_front line >>= row_from_key
 
 abbrev pub select_line : List ℕ
 select_line = codes "s1: SELECT * FROM T"

@@ -2,7 +2,8 @@ use Rattle.std.proofs.Common.{◌≡◌, ◌+◌, ◌-◌, ◌*◌, ℕ, get_or,
 use Rattle.std.specs.Char.{is_ascii_digit, digit_value}
 use Rattle.std.proofs.lemmas.List.Folds.{list_all_more}
 use Rattle.std.proofs.lemmas.Int.Digits.{digits_value_more}
-use Rattle.hb_script.proofs.NumberLemmas.{more_digits, digit_is, digit_bounds}
+use Rattle.hb_script.proofs.NumberLemmas.{more_digits, digit_is}
+use Rattle.hb_table.proofs.NumeralLemmas.{digit_bounds}
 use Rattle.hb_script.proofs.line.natural.Goals as goal
 
 pub loop-digit-preserved : goal.loop-digit-preserved

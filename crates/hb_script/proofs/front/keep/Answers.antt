@@ -1,7 +1,7 @@
 use Rattle.std.proofs.Common.{◌≡◌, ◌∙◌, ◌-◌, length, arith}
 use Rattle.std.specs.Prelude.{min}
 use Rattle.hb_script.proofs.FrontLemmas.{keep_is}
-use Rattle.hb_script.proofs.reader.keep.Goals as goal
+use Rattle.hb_script.proofs.front.keep.Goals as goal
 
 pub returns : goal.returns
 returns c =
