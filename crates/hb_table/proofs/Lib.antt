@@ -3,3 +3,5 @@ pub mod SplitLemmas
 pub mod NumeralLemmas
 pub mod OrderLemmas
 pub mod LineLemmas
+pub mod EntryBytes
+pub mod RowOrder
