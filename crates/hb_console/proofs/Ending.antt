@@ -171,8 +171,8 @@ pub opening_ends : (before after : Outside) (stop : Stop) → GoesOn before afte
 opening_ends before after stop goes_on may output content input kept =
     ends_stopped before after stop goes_on (why_not_open before after stop may output content input)
     (for_tables before.content _ (λ image is start table. for_asked before.input before.input [] (StopsAt start before after stop) refl (asked_start before.input)
-      (λ later. stops_at start before after stop [] later [] ([], refl) (output ∙ with_end_nothing before.output)
-        (λ other. stores_kept after.content after.left after.last image start (content ∙ is) table (kept other)))))
+    (λ later. stops_at start before after stop [] later [] ([], refl) (output ∙ with_end_nothing before.output)
+    (λ other. stores_kept after.content after.left after.last image start (content ∙ is) table (kept other)))))
 
 module _ (table : Table) (before mid : Outside) (opens : Opens before.content table) (content : mid.content ≡ before.content) (kept : IsKept mid.content mid.left mid.last) where
   has_table : HasTable before.content
