@@ -1,16 +1,14 @@
 -- How a run over one disk ends.
-use Rattle.std.proofs.Common.{◌≡◌, ◌≢◌, ◌⊎◌, inl, inr, ℕ, ◌≤◌, List, [], ◌++◌, length, take, refl, sym, ◌∙◌, ap, subst, arith}
-use Rattle.std.specs.Prelude.{Some, None, IfSome, Result, Ok, Err, OnOk, OnErr, IfErr}
+use Rattle.std.proofs.Common.{◌≡◌, ◌≢◌, ◌⊎◌, inl, inr, ℕ, ◌≤◌, List, [], ◌++◌, take, refl, sym, ◌∙◌, ap, subst, arith}
+use Rattle.std.specs.Prelude.{Some, None, IfSome, Result, Ok, Err, OnOk, OnErr}
 use Rattle.std.specs.declared.option.Option.{Option}
-use Rattle.std.proofs.lemmas.List.{append-nil}
 use Rattle.hb_edge.specs.Causes.{Rose}
 use Rattle.hb_edge.specs.Images.{Image}
-use Rattle.hb_edge.specs.Stops.{Only}
 use Rattle.hb_edge.specs.Streams.{with_end, PutsPart}
 use Rattle.hb_table.specs.declared.order.Order.{Order}
 use Rattle.hb_table.specs.Table.{Entry}
-use Rattle.hb_table.specs.Entries.{spelled, IsTable}
-use Rattle.hb_table.specs.Run.{entries_after, replies, run_text, lines_text, IsFront}
+use Rattle.hb_table.specs.Entries.{IsTable}
+use Rattle.hb_table.specs.Run.{entries_after, replies, lines_text, IsFront}
 use Rattle.hb_table.proofs.EntryBytes.{one_list}
 use Rattle.hb_console.specs.declared.stop.Stop.{Stop}
 use Rattle.hb_console.specs.declared.stop.Stop.TheVariants.{Usage, Source, Sink, Disk, Damaged, Memory}
@@ -171,8 +169,8 @@ pub opening_ends : (before after : Outside) (stop : Stop) → GoesOn before afte
 opening_ends before after stop goes_on may output content input kept =
     ends_stopped before after stop goes_on (why_not_open before after stop may output content input)
     (for_tables before.content _ (λ image is start table. for_asked before.input before.input [] (StopsAt start before after stop) refl (asked_start before.input)
-      (λ later. stops_at start before after stop [] later [] ([], refl) (output ∙ with_end_nothing before.output)
-        (λ other. stores_kept after.content after.left after.last image start (content ∙ is) table (kept other)))))
+    (λ later. stops_at start before after stop [] later [] ([], refl) (output ∙ with_end_nothing before.output)
+    (λ other. stores_kept after.content after.left after.last image start (content ∙ is) table (kept other)))))
 
 module _ (table : Table) (before mid : Outside) (opens : Opens before.content table) (content : mid.content ≡ before.content) (kept : IsKept mid.content mid.left mid.last) where
   has_table : HasTable before.content

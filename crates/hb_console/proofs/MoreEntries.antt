@@ -1,6 +1,6 @@
 -- One more entry: in the list, in the table, and on the disk.
-use Rattle.std.proofs.Common.{◌≡◌, ◌≢◌, ℕ, ◌+◌, ◌-◌, ◌<◌, List, [], ◌∷◌, ◌++◌, length, take, drop, refl, sym, ◌∙◌, ap, subst, arith, append_assoc, length-append, ℤ, true, false, Bool, w32}
-use Rattle.std.specs.Prelude.{Some, None, IfSome, FitsSigned, ◌||◌, replicate}
+use Rattle.std.proofs.Common.{◌≡◌, ℕ, ◌+◌, ◌-◌, ◌<◌, List, [], ◌∷◌, ◌++◌, length, drop, refl, sym, ◌∙◌, ap, arith, append_assoc, length-append, ℤ, false, Bool, w32}
+use Rattle.std.specs.Prelude.{Some, None, FitsSigned, ◌||◌, replicate}
 use Rattle.std.specs.Option.{option_map}
 use Rattle.std.specs.declared.option.Option.{Option}
 use Rattle.std.specs.Ordering.{int_cmp, int_eq}

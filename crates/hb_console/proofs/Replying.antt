@@ -2,7 +2,7 @@
 use Rattle.std.proofs.Common.{◌≡◌, ℕ, zero, suc, ◌+◌, ◌<◌, ◌≤◌, List, [], ◌∷◌, ◌++◌, length, take, drop, refl, sym, ◌∙◌, ap, arith, append_assoc, length-append, take-append-drop, true, false, Bool, cond}
 use Rattle.std.specs.Prelude.{Some, None}
 use Rattle.std.specs.declared.option.Option.{Option}
-use Rattle.std.proofs.lemmas.List.{append-nil, take_at, take_all, length-take}
+use Rattle.std.proofs.lemmas.List.{append-nil, take_at, take_all}
 use Rattle.hb_edge.specs.Streams.{with_end}
 use Rattle.hb_table.specs.declared.order.Order.{Order}
 use Rattle.hb_table.specs.declared.order.Order.TheVariants.{Insert, Select, NotBuilt}
@@ -84,10 +84,13 @@ replies_front start first later =
 -- what is shown is within the replies to the first orders: these have each order whose whole reply is shown
 pub has_shown : (start : List Entry) (first later : List Order) (shown : List ℕ) → IsFront shown (replies 1 start first) → HasShown start (first ++ later) shown (entries_after start first)
 has_shown start first later shown within =
-    let first_is : take (length first) (first ++ later) ≡ first = take_at first later (length first) refl in
-    (length first, ap (entries_after start) (sym first_is), λ k le front.
-      let no_more : length first < k → ⊥ = λ lt. omega (arith, longer 1 start (first ++ later) (length first) k lt le, ap (λ (os : List Order). length (replies 1 start os)) first_is, front_length (replies 1 start (take k (first ++ later))) shown front, front_length shown (replies 1 start first) within) in
-      omega arith)
+    let first_is : take (length first) (first ++ later) ≡ first = take_at first later (length first) refl in (
+      length first,
+      ap (entries_after start) (sym first_is),
+      λ k le front.
+          let no_more : length first < k → ⊥ = λ lt. omega (arith, longer 1 start (first ++ later) (length first) k lt le, ap (λ (os : List Order). length (replies 1 start os)) first_is, front_length (replies 1 start (take k (first ++ later))) shown front, front_length shown (replies 1 start first) within) in
+          omega arith,
+    )
 
 -- all orders are done
 pub has_shown-all : (start : List Entry) (orders : List Order) (shown : List ℕ) → HasShown start orders shown (entries_after start orders)

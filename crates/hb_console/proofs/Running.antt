@@ -10,8 +10,8 @@ use Rattle.hb_table.specs.declared.order.Order.{Order}
 use Rattle.hb_table.specs.Lines.{lines_of}
 use Rattle.hb_table.specs.Orders.{AskAll}
 use Rattle.hb_table.specs.Table.{Entry, entries_with, reply_to}
-use Rattle.hb_table.specs.Run.{entries_after, replies, run_text, IsFront, HasShown}
-use Rattle.hb_script.specs.Scripts.{NextOrder, FirstAsks}
+use Rattle.hb_table.specs.Run.{entries_after, replies, run_text, IsFront}
+use Rattle.hb_script.specs.Scripts.{NextOrder}
 use Rattle.hb_console.specs.declared.stop.Stop.{Stop}
 use Rattle.hb_console.specs.declared.stop.Stop.TheVariants.{Disk, Memory}
 use Rattle.hb_console.specs.declared.table.Table.{Table}
@@ -70,7 +70,7 @@ for_asked (Some input) None done P told asked each = absurd (cc)
 for_asked (Some input) (Some more) done P told asked each = λ orders asks. let found = asked_first input more done orders asked asks in subst P (sym found.1) (each found.0)
 
 module _ (start : List Entry) (all rest more : Option (List ℕ)) (number n : ℕ) (table table' : Table) (content content' : Option Image) (left left' : ℕ → Image → Type 0) (last last' : ℕ) (old held : Option (List ℕ)) (running : Running start all rest number table content left last old held) (order : Order) (next : NextOrder (Some order) rest more) (number_is : n ≡ number + 1) (reply : Reply)
-  (serves : Serves (entries_with (entries_after start running.done) order) (reply_to n (entries_after start running.done) order) table' content' left' last' reply) where
+    (serves : Serves (entries_with (entries_after start running.done) order) (reply_to n (entries_after start running.done) order) table' content' left' last' reply) where
   abbrev done : List Order
   done = running.done ++ order ∷ []
 
@@ -159,7 +159,7 @@ pub stopped_first : (table : Table) (before after : Outside) (stop : Stop) → G
     → ((start : List Entry) → Stores start before.content before.left before.last → Stores start after.content after.left after.last) → (e : Stop) → e ≡ stop → (result : Result ℕ Stop) → result ≡ Err e → Runs table before after result
 stopped_first table before after stop goes_on cause same kept =
     runs_stopped table before after stop goes_on cause (λ start keeps stores. for_asked before.input before.input [] (StopsAt start before after stop) refl (asked_start before.input)
-      (λ later. stops_at start before after stop [] later [] ([], refl) (same ∙ with_end_nothing before.output) (λ other. kept start stores)))
+    (λ later. stops_at start before after stop [] later [] ([], refl) (same ∙ with_end_nothing before.output) (λ other. kept start stores)))
 
 -- it stopped where a part of an order's reply was out
 pub stopped_within : (table : Table) (before after : Outside) (rest more : Option (List ℕ)) (number n : ℕ) (table' table'' : Table) (content : Option Image) (left : ℕ → Image → Type 0) (last : ℕ) (held : Option (List ℕ)) (order : Order) (reply : Reply) (stop : Stop) → GoesOn before after → MayStop before.faults after.faults stop
@@ -169,8 +169,8 @@ pub stopped_within : (table : Table) (before after : Outside) (rest more : Optio
     → PutsPart held after.output (bytes_of reply) → (e : Stop) → e ≡ stop → (result : Result ℕ Stop) → result ≡ Err e → Runs table before after result
 stopped_within table before after rest more number n table' table'' content left last held order reply stop goes_on cause runs next number_is served part =
     runs_stopped table before after stop goes_on cause (λ start keeps stores. let running = runs start keeps stores in
-      stops_on start before.input rest more number n table' table'' content after.content left after.left last after.last before.output held running order next number_is reply (served start running) before after stop (bytes_of reply) refl part refl
-      (stores_on start before.input rest more number n table' table'' content after.content left after.left last after.last before.output held running order next number_is reply (served start running)))
+    stops_on start before.input rest more number n table' table'' content after.content left after.left last after.last before.output held running order next number_is reply (served start running) before after stop (bytes_of reply) refl part refl
+    (stores_on start before.input rest more number n table' table'' content after.content left after.left last after.last before.output held running order next number_is reply (served start running)))
 
 -- it came to the end of its source
 pub runs_ended : (table : Table) (before after : Outside) (rest : Option (List ℕ)) (reader : List ℕ) (number : ℕ) (table' : Table) → GoesOn before after

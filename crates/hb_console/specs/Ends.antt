@@ -1,5 +1,5 @@
 -- The top call: its words, and what stands at each of its statuses.
-use Rattle.std.specs.Prelude.{◌≡◌, ◌≢◌, ◌⊎◌, ◌≤◌, ℕ, List, [], ◌∷◌, Some, Option, length, IfSome, codes}
+use Rattle.std.specs.Prelude.{◌≡◌, ◌≢◌, ◌⊎◌, ℕ, List, [], ◌∷◌, Some, IfSome, codes}
 use Rattle.hb_edge.specs.Causes.{Rose}
 use Rattle.hb_edge.specs.Streams.{with_end}
 use Rattle.hb_table.specs.declared.order.Order.{Order}
@@ -36,18 +36,14 @@ ForRun before P = IfSome before.content (λ image. (start : List Entry) → IsTa
 pub record Ends (status : ℕ) (before after : Outside) : Type 0 where
   pub not_usage : status ≢ 1
   pub goes_on : GoesOn before after
-
   pub finished : status ≡ 0 → ForRun before (Finishes before after)
   pub stopped : status ≢ 0 → ForRun before (Stands status before after)
-
   -- 3, 4 and 5 come only where the device's count rose
   pub source_failed : status ≡ 3 → Rose before.faults.source after.faults.source
   pub sink_failed : status ≡ 4 → Rose before.faults.sink after.faults.sink
   pub disk_failed : status ≡ 5 → Rose before.faults.disk after.faults.disk
-
   -- 6 comes exactly where the disk that was read is no list of entries, and then nothing is done
   pub damaged : status ≡ 6 → IfSome before.content IsNoTable × (after.output ≡ before.output) × (after.content ≡ before.content) × (after.input ≡ before.input)
   pub refused : IfSome before.content (λ image. IsNoTable image → (status ≡ 5) ⊎ (status ≡ 6) ⊎ (status ≡ 7))
-
   -- over a list of entries, and where no count rose, the run is done or memory was wanting
   pub quiet : (Rose before.faults.source after.faults.source → ⊥) → (Rose before.faults.sink after.faults.sink → ⊥) → (Rose before.faults.disk after.faults.disk → ⊥) → IfSome before.content (λ image. (start : List Entry) → IsTable image start → (status ≡ 0) ⊎ (status ≡ 7))

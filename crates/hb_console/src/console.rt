@@ -4,10 +4,10 @@ ghost use Rattle.hb_console.specs.Outside.{seen};
 ghost use Rattle.hb_console.specs.Stops.{status_of};
 ghost use Rattle.hb_console.specs.Ends.{IsRun, Ends};
 
+use crate::Stop;
 use crate::opening::open;
 use crate::reply::Reply;
 use crate::run::{put_reply, run_orders};
-use crate::Stop;
 use hb_edge::{Clock, Disk, Sink, Source};
 use hb_script::lines;
 use hb_types::Text;
@@ -26,7 +26,13 @@ pub struct Ended<D: Disk> {
 }
 
 /// Opens the disk, does the orders of the source, and prints how many lines there were.
-fn run_to_end<S: Source, O: Sink, D: Disk>(alloc: Global, source: &mut S, sink: &mut O, disk: &mut D, clock: &mut Clock) -> Result<(), Stop>
+fn run_to_end<S: Source, O: Sink, D: Disk>(
+    alloc: Global,
+    source: &mut S,
+    sink: &mut O,
+    disk: &mut D,
+    clock: &mut Clock,
+) -> Result<(), Stop>
     ensures { Ends (status_of result)
         (seen S.left S.faults O.held O.faults D.content D.left D.last D.faults source.old sink.old disk.old)
         (seen S.left S.faults O.held O.faults D.content D.left D.last D.faults source.new sink.new disk.new) }
@@ -57,11 +63,21 @@ fn is_word(word: &Text, bytes: &[u8]) -> bool
 fn is_run(words: &[Text]) -> bool
     ensures { IsTrue result ↔ IsRun words.now }
 {
-    words.len() == 3 && is_word(&words[0], RUN) && is_word(&words[1], BACK_ENDS) && is_word(&words[2], ONE)
+    words.len() == 3
+        && is_word(&words[0], RUN)
+        && is_word(&words[1], BACK_ENDS)
+        && is_word(&words[2], ONE)
 }
 
 /// Does the command that the words name: `run -b 1` over one disk.
-pub fn console_run<S: Source, O: Sink, D: Disk>(alloc: Global, words: &[Text], source: &mut S, sink: &mut O, disks: Vec<D>, clock: &mut Clock) -> Ended<D>
+pub fn console_run<S: Source, O: Sink, D: Disk>(
+    alloc: Global,
+    words: &[Text],
+    source: &mut S,
+    sink: &mut O,
+    disks: Vec<D>,
+    clock: &mut Clock,
+) -> Ended<D>
     // Status 1 comes exactly where the words aren't `run -b 1` or there isn't one disk, and then nothing is touched.
     ensures usage { (result.status ≢ 1) ↔ (IsRun words.now × (length disks.items ≡ 1)) }
     ensures untouched { result.status ≡ 1 → (result.disks.items ≡ disks.items) × (source.new ≡ source.old) × (sink.new ≡ sink.old) × (clock.new ≡ clock.old) }

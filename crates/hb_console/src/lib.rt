@@ -15,3 +15,6 @@ pub use console::{Ended, console_run};
 pub use reply::Reply;
 pub use stop::{Stop, status_word};
 pub use table::Table;
+
+#[cfg(test)]
+mod tests;

@@ -5,10 +5,10 @@ ghost use Rattle.hb_table.specs.Table.{Entry, entries_with, reply_to, rows_of, r
 ghost use Rattle.hb_console.specs.Stops.{StopsBy};
 ghost use Rattle.hb_console.specs.Tables.{Keeps, Serves, Stores};
 
-use crate::store::write_and_sync;
-use crate::table::{add_row, end_after, is_taken};
 use crate::entry::spell_entry;
 use crate::reply::Reply;
+use crate::store::write_and_sync;
+use crate::table::{add_row, end_after, is_taken};
 use crate::{Stop, Table};
 use hb_edge::{Clock, Disk};
 use hb_script::{inserted, not_built, rows};
@@ -17,7 +17,14 @@ use hb_types::Text;
 use std::alloc::Global;
 
 /// Adds the row of a key that isn't there: all memory is taken first, and the reply is had once the disk is synced.
-fn insert_new<D: Disk>(alloc: Global, table: &mut Table, key: i32, text: Text, disk: &mut D, clock: &mut Clock) -> Result<Reply, Stop>
+fn insert_new<D: Disk>(
+    alloc: Global,
+    table: &mut Table,
+    key: i32,
+    text: Text,
+    disk: &mut D,
+    clock: &mut Clock,
+) -> Result<Reply, Stop>
     ensures done { (entries : List Entry) → Keeps entries table.old → Stores entries (D.content disk.old) (D.left disk.old) (D.last disk.old) → has_key key entries ≡ false → IfOk result
         (Serves (entries ++ (key, text) ∷ []) (inserted_text (length entries + 1)) table.new (D.content disk.new) (D.left disk.new) (D.last disk.new)) }
     ensures stopped { (entries : List Entry) → Stores entries (D.content disk.old) (D.left disk.old) (D.last disk.old) → IfErr result (λ stop. stop ≢ Stop.Disk → Stores entries (D.content disk.new) (D.left disk.new) (D.last disk.new)) }
@@ -34,7 +41,14 @@ fn insert_new<D: Disk>(alloc: Global, table: &mut Table, key: i32, text: Text, d
 }
 
 /// Adds a row, unless its key is taken.
-fn insert<D: Disk>(alloc: Global, table: &mut Table, key: i32, text: Text, disk: &mut D, clock: &mut Clock) -> Result<Reply, Stop>
+fn insert<D: Disk>(
+    alloc: Global,
+    table: &mut Table,
+    key: i32,
+    text: Text,
+    disk: &mut D,
+    clock: &mut Clock,
+) -> Result<Reply, Stop>
     ensures done { (entries : List Entry) → Keeps entries table.old → Stores entries (D.content disk.old) (D.left disk.old) (D.last disk.old) → IfOk result
         (Serves (entries_with entries (Inserting key text)) (reply_to 0 entries (Inserting key text)) table.new (D.content disk.new) (D.left disk.new) (D.last disk.new)) }
     ensures stopped { (entries : List Entry) → Stores entries (D.content disk.old) (D.left disk.old) (D.last disk.old) → IfErr result (λ stop. stop ≢ Stop.Disk → Stores entries (D.content disk.new) (D.left disk.new) (D.last disk.new)) }
@@ -48,7 +62,14 @@ fn insert<D: Disk>(alloc: Global, table: &mut Table, key: i32, text: Text, disk:
 }
 
 /// Does one order, which is the line of a number.
-pub(crate) fn serve<D: Disk>(alloc: Global, table: &mut Table, number: u64, order: Order, disk: &mut D, clock: &mut Clock) -> Result<Reply, Stop>
+pub(crate) fn serve<D: Disk>(
+    alloc: Global,
+    table: &mut Table,
+    number: u64,
+    order: Order,
+    disk: &mut D,
+    clock: &mut Clock,
+) -> Result<Reply, Stop>
     ensures done { (entries : List Entry) → Keeps entries table.old → Stores entries (D.content disk.old) (D.left disk.old) (D.last disk.old) → IfOk result
         (Serves (entries_with entries order) (reply_to number entries order) table.new (D.content disk.new) (D.left disk.new) (D.last disk.new)) }
     ensures stopped { (entries : List Entry) → Stores entries (D.content disk.old) (D.left disk.old) (D.last disk.old) → IfErr result (λ stop. stop ≢ Stop.Disk → Stores entries (D.content disk.new) (D.left disk.new) (D.last disk.new)) }

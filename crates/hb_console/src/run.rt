@@ -29,7 +29,11 @@ pub(crate) fn put_reply<O: Sink>(sink: &mut O, clock: &mut Clock, reply: Reply) 
 }
 
 /// The next order of the script, or none at its end.
-fn next_order<S: Source>(alloc: Global, reader: &mut ScriptReader, source: &mut S) -> Result<Option<Order>, Stop>
+fn next_order<S: Source>(
+    alloc: Global,
+    reader: &mut ScriptReader,
+    source: &mut S,
+) -> Result<Option<Order>, Stop>
     ensures next { IfOk result (λ found. NextOrder found (with_front reader.old (S.left source.old)) (with_front reader.new (S.left source.new))) }
     ensures bound { IfOk result (λ found. OnSome found (length reader.new + S.bound source.new < length reader.old + S.bound source.old)) }
     ensures cause { StopsBy Stop.Source (S.faults source.old) (S.faults source.new) result }
@@ -49,7 +53,14 @@ fn number_after(number: u64) -> Result<u64, Stop>
 }
 
 /// Does the orders of the source to its end, and says how many there were.
-pub(crate) fn run_orders<S: Source, O: Sink, D: Disk>(alloc: Global, table: &mut Table, source: &mut S, sink: &mut O, disk: &mut D, clock: &mut Clock) -> Result<u64, Stop>
+pub(crate) fn run_orders<S: Source, O: Sink, D: Disk>(
+    alloc: Global,
+    table: &mut Table,
+    source: &mut S,
+    sink: &mut O,
+    disk: &mut D,
+    clock: &mut Clock,
+) -> Result<u64, Stop>
     ensures { Runs table.old
         (seen S.left S.faults O.held O.faults D.content D.left D.last D.faults source.old sink.old disk.old)
         (seen S.left S.faults O.held O.faults D.content D.left D.last D.faults source.new sink.new disk.new)

@@ -41,7 +41,11 @@ fn read_all<D: Disk>(alloc: Global, disk: &mut D, clock: &mut Clock) -> Result<V
 }
 
 /// Syncs the disk and reads all its bytes. A stop then leaves just these.
-pub(crate) fn sync_and_read<D: Disk>(alloc: Global, disk: &mut D, clock: &mut Clock) -> Result<Vec<u8>, Stop>
+pub(crate) fn sync_and_read<D: Disk>(
+    alloc: Global,
+    disk: &mut D,
+    clock: &mut Clock,
+) -> Result<Vec<u8>, Stop>
     ensures bytes { IfOk result (λ read. IfSome (D.content disk.old) (λ image. read.items ≡ image)) }
     ensures content { D.content disk.new ≡ D.content disk.old }
     ensures kept { (IsErrOf result Stop.Disk → ⊥) → IsKept (D.content disk.new) (D.left disk.new) (D.last disk.new) }
@@ -52,7 +56,12 @@ pub(crate) fn sync_and_read<D: Disk>(alloc: Global, disk: &mut D, clock: &mut Cl
 }
 
 /// Writes at a place, and syncs.
-pub(crate) fn write_and_sync<D: Disk>(disk: &mut D, clock: &mut Clock, at: u64, bytes: &[u8]) -> Result<(), Stop>
+pub(crate) fn write_and_sync<D: Disk>(
+    disk: &mut D,
+    clock: &mut Clock,
+    at: u64,
+    bytes: &[u8],
+) -> Result<(), Stop>
     requires { at + length bytes.now ≤ 2 ^ 62 }
     ensures written { OnOk result (D.content disk.new ≡ option_map (written at bytes.now) (D.content disk.old)) }
     ensures kept { OnOk result (IsKept (D.content disk.new) (D.left disk.new) (D.last disk.new)) }
