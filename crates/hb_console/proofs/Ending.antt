@@ -121,6 +121,7 @@ module _ (before after : Outside) where
   ends_stopped : (stop : Stop) → GoesOn before after → Why before after stop → ForRun before (λ start orders. StopsAt start before after stop orders) → (e : Stop) → e ≡ stop → (result : Result (Unit {0}) Stop) → result ≡ Err e → Ends (status_of result) before after
   ends_stopped stop goes_on why stands e same result is = subst (λ (r : Result (Unit {0}) Stop). Ends (status_of r) before after) (sym (is ∙ ap (λ (s : Stop). Err s) same)) (record {
     not_usage = not_usage stop why;
+    named = λ _. (stop, refl);
     goes_on = goes_on;
     finished = λ zero. absurd (not_done stop zero);
     stopped = λ _. for_run_map before _ _ (λ start orders at. stands_of before after stop start orders at) stands;
@@ -135,6 +136,7 @@ module _ (before after : Outside) where
   ends_done : GoesOn before after → HasTable before.content → ForRun before (Finishes before after) → Ends 0 before after
   ends_done goes_on has finishes = record {
     not_usage = λ e. absurd (omega arith);
+    named = λ other. absurd (other refl);
     goes_on = goes_on;
     finished = λ _. finishes;
     stopped = λ other. absurd (other refl);

@@ -110,7 +110,10 @@ fn a_second_run_goes_on_from_the_first(rt: HostRuntime) -> Result<(), Fail> {
         NONE,
     )?;
     assert_eq!(rt; left.status, 0);
-    assert_eq!(rt; left.text.as_slice(), b"s1 KEY TAKEN\ns1 INSERTED 1\ns1 COMMITTED 3\ns1 ROW -1,a\ns1 ROW 0,\ns1 ROW 5,e\ns1 ROWS 3\nLINES 3\n".as_slice());
+    assert_eq!(rt;
+        left.text.as_slice(),
+        b"s1 KEY TAKEN\ns1 INSERTED 1\ns1 COMMITTED 3\ns1 ROW -1,a\ns1 ROW 0,\ns1 ROW 5,e\ns1 ROWS 3\nLINES 3\n".as_slice()
+    );
     assert_eq!(rt; left.disk.len(), 17);
     Ok(())
 }
@@ -122,7 +125,10 @@ fn an_empty_script_and_a_line_that_is_not_built(rt: HostRuntime) -> Result<(), F
     assert_eq!(rt; left.text.as_slice(), b"LINES 0\n".as_slice());
     let left = run(rt.alloc(), b"x", b"", NONE)?;
     assert_eq!(rt; left.status, 0);
-    assert_eq!(rt; left.text.as_slice(), b"LINE 1 NOT BUILT\nLINES 1\n".as_slice());
+    assert_eq!(rt;
+        left.text.as_slice(),
+        b"LINE 1 NOT BUILT\nLINES 1\n".as_slice()
+    );
     Ok(())
 }
 
@@ -174,14 +180,23 @@ fn a_source_that_fails_ends_with_3(rt: HostRuntime) -> Result<(), Fail> {
     let failing = Failing { source: 6, ..NONE };
     let left = run(rt.alloc(), SCRIPT, b"", failing)?;
     assert_eq!(rt; left.status, 3);
-    assert_eq!(rt; left.text.as_slice(), b"s1 INSERTED 1\ns1 COMMITTED 1\n".as_slice());
+    assert_eq!(rt;
+        left.text.as_slice(),
+        b"s1 INSERTED 1\ns1 COMMITTED 1\n".as_slice()
+    );
     assert_eq!(rt; left.disk.len(), 6);
     Ok(())
 }
 
 #[test]
 fn a_sink_that_fails_ends_with_4(rt: HostRuntime) -> Result<(), Fail> {
-    for (sink, text, disk) in [(1, 0, 6), (2, 29, 6), (3, 42, 12), (4, 71, 12), (5, 104, 12)] {
+    for (sink, text, disk) in [
+        (1, 0, 6),
+        (2, 29, 6),
+        (3, 42, 12),
+        (4, 71, 12),
+        (5, 104, 12),
+    ] {
         let left = run(rt.alloc(), SCRIPT, b"", Failing { sink, ..NONE })?;
         assert_eq!(rt; left.status, 4);
         assert_eq!(rt; left.text.len(), text);
