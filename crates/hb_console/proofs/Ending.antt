@@ -19,7 +19,7 @@ use Rattle.hb_console.specs.Tables.{Keeps, Stores, IsKept, IsNoTable, Opens, May
 use Rattle.hb_console.specs.Runs.{ForOrders, Answers, StopsAt, Runs}
 use Rattle.hb_console.specs.Ends.{Ends, Finishes, Stands, ForRun}
 use Rattle.hb_console.proofs.Replying.{with_end_twice, with_end_nothing, front_part, has_shown-all}
-use Rattle.hb_console.proofs.Running.{for_asked, asked_start, stops_at, rose_since, by_device}
+use Rattle.hb_console.proofs.Running.{for_asked, asked_start, stops_at, rose_since, by_device, goes_twice}
 
 all_some : {X : Type 0} (o : Option X) (P : X → Type 0) → ((x : X) → P x) → IfSome o P
 all_some None P f = tt
@@ -193,21 +193,12 @@ module _ (table : Table) (before mid : Outside) (opens : Opens before.content ta
   why_stopped after Memory may source sink disk = tt
 
   module _ (input : mid.input ≡ before.input) (output : mid.output ≡ before.output) (begins : GoesOn before mid) where
-    goes_twice : (after : Outside) → GoesOn mid after → GoesOn before after
-    goes_twice after second = record {
-      source = omega (arith, begins.source, second.source);
-      sink = omega (arith, begins.sink, second.sink);
-      disk = omega (arith, begins.disk, second.disk);
-      output = second.output ∙ begins.output;
-      content = second.content ∙ begins.content;
-    }
-
     stopped_since : (after : Outside) (stop : Stop) (start : List Entry) (orders : List Order) → StopsAt start mid after stop orders → StopsAt start before after stop orders
     stopped_since after stop start orders at = record { shown = at.shown; text = at.text ∙ ap (with_end at.shown) output; front = at.front; stores = at.stores }
 
     -- a stop among the orders
     pub run_ends : (after : Outside) (stop : Stop) → Runs table mid after (Err stop) → (e : Stop) → e ≡ stop → (result : Result (Unit {0}) Stop) → result ≡ Err e → Ends (status_of result) before after
-    run_ends after stop runs = ends_stopped before after stop (goes_twice after runs.goes_on) (why_stopped after stop runs.cause begins.source begins.sink begins.disk)
+    run_ends after stop runs = ends_stopped before after stop (goes_twice before mid after begins runs.goes_on) (why_stopped after stop runs.cause begins.source begins.sink begins.disk)
         (from_opened _ (λ start keeps stores. subst (λ (i : Option (List ℕ)). ForOrders i (StopsAt start before after stop)) input (for_orders_map mid.input _ _ (stopped_since after stop start) (runs.stopped start keeps stores))))
 
     module _ (run after : Outside) (n : ℕ) (runs : Runs table mid run (Ok n)) (stays : (entries : List Entry) → Stores entries run.content run.left run.last → Stores entries after.content after.left after.last) where
@@ -223,28 +214,16 @@ module _ (table : Table) (before mid : Outside) (opens : Opens before.content ta
         stores = λ other. (entries_after start orders, stays (entries_after start orders) answers.stores, has_shown-all start orders (replies 1 start orders ++ take part (lines_text n)));
       }
 
+      goes_on_last : GoesOn run after → GoesOn before after
+      goes_on_last last = goes_twice before run after (goes_twice before mid run begins runs.goes_on) last
+
       pub last_stops : (stop : Stop) → GoesOn run after → MayStop mid.faults after.faults stop → PutsPart run.output after.output (lines_text n) → (e : Stop) → e ≡ stop → (result : Result (Unit {0}) Stop) → result ≡ Err e → Ends (status_of result) before after
       last_stops stop ends may part = ends_stopped before after stop (goes_on_last ends) (why_stopped after stop may begins.source begins.sink begins.disk)
           (from_opened _ (λ start keeps stores. answered start keeps stores _ (stops_last stop part.0 part.1 start)))
-        where
-          goes_on_last : GoesOn run after → GoesOn before after
-          goes_on_last last = record {
-            source = omega (arith, begins.source, runs.goes_on.source, last.source);
-            sink = omega (arith, begins.sink, runs.goes_on.sink, last.sink);
-            disk = omega (arith, begins.disk, runs.goes_on.disk, last.disk);
-            output = last.output ∙ runs.goes_on.output ∙ begins.output;
-            content = last.content ∙ runs.goes_on.content ∙ begins.content;
-          }
 
       pub last_ends : GoesOn run after → after.input ≡ run.input → after.output ≡ with_end (lines_text n) run.output → Ends 0 before after
       last_ends last input_is out = ends_done before after
-          (record {
-            source = omega (arith, begins.source, runs.goes_on.source, last.source);
-            sink = omega (arith, begins.sink, runs.goes_on.sink, last.sink);
-            disk = omega (arith, begins.disk, runs.goes_on.disk, last.disk);
-            output = last.output ∙ runs.goes_on.output ∙ begins.output;
-            content = last.content ∙ runs.goes_on.content ∙ begins.content;
-          })
+          (goes_on_last last)
           has_table
           (from_opened _ (λ start keeps stores. answered start keeps stores _ (λ orders answers. record {
             text = out ∙ ap (with_end (lines_text n)) (answers.text ∙ ap (with_end (replies 1 start orders)) output) ∙ with_end_twice before.output (replies 1 start orders) (lines_text n) ∙ ap (λ (k : ℕ). with_end (replies 1 start orders ++ lines_text k) before.output) answers.count;

@@ -30,7 +30,7 @@ pub spelled-push : (entries : List Entry) (entry : Entry) → spelled (entries +
 spelled-push [] entry = append-nil (entry_bytes entry)
 spelled-push (e ∷ entries) entry = ap (λ (l : List ℕ). entry_bytes e ++ l) (spelled-push entries entry) ∙ sym (append_assoc (entry_bytes e) (spelled entries) (entry_bytes entry))
 
-or_none : (a b : Bool) → a ≡ false → b ≡ false → (a || b) ≡ false
+pub or_none : (a b : Bool) → a ≡ false → b ≡ false → (a || b) ≡ false
 or_none a b x y = cc
 
 -- `==` is symmetric
