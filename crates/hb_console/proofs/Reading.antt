@@ -1,15 +1,13 @@
 -- The entries read so far from the bytes of a disk.
-use Rattle.std.proofs.Common.{◌≡◌, ℕ, ◌<◌, ◌≤◌, List, [], ◌∷◌, ◌++◌, length, refl, sym, ◌∙◌, ap, subst, arith, append_assoc, length-append, ℤ, true, false, Bool, w32}
-use Rattle.std.specs.Prelude.{FitsSigned, ◌||◌}
+use Rattle.std.proofs.Common.{◌≡◌, ℕ, ◌<◌, ◌≤◌, List, [], ◌∷◌, ◌++◌, length, refl, sym, ◌∙◌, ap, subst, arith, append_assoc, length-append, ℤ, true, false, w32}
+use Rattle.std.specs.Prelude.{FitsSigned}
 use Rattle.std.specs.Ordering.{int_cmp, int_eq}
 use Rattle.std.specs.BTreeMap.{insert_entry}
-use Rattle.std.proofs.lemmas.List.{append-nil, nil_from_length}
 use Rattle.hb_table.specs.Table.{Entry, rows_of, has_key}
 use Rattle.hb_table.specs.Entries.{entry_bytes, spelled, AreEntries, IsTable}
 use Rattle.hb_table.proofs.EntryBytes.{one_entry, entry_cells}
 use Rattle.hb_table.proofs.RowOrder.{or_parts, has_key-rows_of}
-use Rattle.hb_console.specs.declared.table.Table.{Table}
-use Rattle.hb_console.specs.Tables.{Keeps, IsNoTable}
+use Rattle.hb_console.specs.Tables.{IsNoTable}
 use Rattle.hb_console.proofs.MoreEntries.{or_none, eq_false, AreEntries-push, rows_more, spelled-push}
 
 -- these entries were read, the rest is left, and each list of entries that the bytes are goes on from them
