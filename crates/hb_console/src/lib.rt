@@ -11,7 +11,13 @@ mod stop;
 mod store;
 mod table;
 
+<<<<<<< HEAD
 pub use console::{Ended, back_ends, console_run};
 pub use reply::Reply;
+=======
+pub use console::{Ended, console_run};
+>>>>>>> console
 pub use stop::{Stop, status_word};
-pub use table::Table;
+
+#[cfg(test)]
+mod tests;
