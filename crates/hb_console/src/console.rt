@@ -67,7 +67,6 @@ fn is_run(words: &[Text]) -> bool
         && is_word(&words[0], RUN)
         && is_word(&words[1], BACK_ENDS)
         && is_word(&words[2], ONE)
-<<<<<<< HEAD
 }
 
 /// How many back ends the command of these words has: 0 where they are no command.
@@ -76,8 +75,6 @@ pub fn back_ends(words: &[Text]) -> u8
     ensures most { result ≤ 1 }
 {
     if is_run(words) { 1 } else { 0 }
-=======
->>>>>>> console
 }
 
 /// Does the command that the words name: `run -b 1` over one disk.

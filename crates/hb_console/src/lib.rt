@@ -11,12 +11,7 @@ mod stop;
 mod store;
 mod table;
 
-<<<<<<< HEAD
 pub use console::{Ended, back_ends, console_run};
-pub use reply::Reply;
-=======
-pub use console::{Ended, console_run};
->>>>>>> console
 pub use stop::{Stop, status_word};
 
 #[cfg(test)]
