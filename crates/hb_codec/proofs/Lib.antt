@@ -1,0 +1,4 @@
+mod Calculus
+mod Digits
+mod Widths
+mod Lists

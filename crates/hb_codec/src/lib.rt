@@ -1,0 +1,2 @@
+//! The bytes of rows, changes and records, both ways.
+#![tactic(auto)]
