@@ -2,3 +2,6 @@ mod Calculus
 mod Digits
 mod Widths
 mod Lists
+mod Signed
+mod RowGrammar
+mod NumberAt

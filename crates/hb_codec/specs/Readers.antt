@@ -1,10 +1,21 @@
 -- Reading from left to right: the value at the front and the bytes behind it, or how many bytes are left where no spelling goes on.
 use Rattle.std.specs.Prelude.{◌≡◌, ℕ, zero, suc, ◌+◌, ◌-◌, ◌*◌, ◌/◌, ◌%◌, Bool, nat_lt, nat_le, ◌&&◌, if◌then◌else◌, List, [], ◌∷◌, length, take, drop, Result, Ok, Err}
+use Rattle.hb_codec.specs.declared.fault.ReadFault.{ReadFault}
+use Rattle.hb_codec.specs.declared.fault.ReadFault.TheVariants as fault
 
 infixl 10 ◌>>=◌
 abbrev pub ◌>>=◌ : {A B : Type 0} → Result A ℕ → (A → Result B ℕ) → Result B ℕ
 (Ok x) >>= f = f x
 (Err left) >>= f = Err left
+
+-- what a function returned, seen by view, is what reading gives, unless memory ran out
+abbrev pub Fails : {Y : Type 0} → ReadFault → Result Y ℕ → Type 0
+Fails fault.NoMemory read = Unit {0}
+Fails (fault.Left n) read = read ≡ Err n
+
+abbrev pub Gives : {X Y : Type 0} → (X → Y) → Result X ReadFault → Result Y ℕ → Type 0
+Gives view (Ok x) read = read ≡ Ok (view x)
+Gives view (Err e) read = Fails e read
 
 -- a byte that meets a test
 abbrev pub byte_in : (ℕ → Bool) → List ℕ → Result (ℕ × List ℕ) ℕ
