@@ -66,3 +66,19 @@ accepted low high d b small le ok = and_from (nat_lt b 256) (digit_fits low high
 pub fails_on : {A B : Type 0} (e : ReadFault) (r : Result A ℕ) (f : A → Result B ℕ) (total : Result B ℕ) → Fails e r → total ≡ (r >>= f) → Fails e total
 fails_on fault.NoMemory r f total h e = tt
 fails_on (fault.Left n) r f total h e = e ∙ ap (λ m. m >>= f) h
+
+-- the same, as the code has it
+pub number_whole : (turn width low high least most d : ℕ) (bytes back : List ℕ) → (width ≡ 0 → ⊥) → 1 ≤ length bytes → get_or bytes 0 0 < 256
+    → d ≡ digit turn (width - 1) (get_or bytes 0 0) → least ≡ least_above low d → most ≡ most_above high d → back ≡ drop 1 bytes → d ≤ high → least ≤ most
+    → number_in turn width low high bytes ≡ (number_in turn (width - 1) least most back >>= λ n. Ok (d + 256 * n.0, n.1))
+number_whole turn width low high least most d bytes back some long small e_d e_l e_m e_b below fits =
+    let d0 = digit turn (width - 1) (get_or bytes 0 0) in
+    let l : least ≡ least_above low d0 = e_l ∙ ap (least_above low) e_d in
+    let m : most ≡ most_above high d0 = e_m ∙ ap (most_above high) e_d in
+    let fits0 : least_above low d0 ≤ most_above high d0 = subst (λ (k : ℕ). least_above low d0 ≤ k) m (subst (λ (k : ℕ). k ≤ most) l fits) in
+    let below0 : d0 ≤ high = subst (λ (k : ℕ). k ≤ high) e_d below in
+    let goes = number_goes turn width low high bytes some long (accepted low high d0 (get_or bytes 0 0) small below0 fits0) in
+    goes ∙ (λ i. number_in turn (width - 1) (sym l i) (sym m i) (sym e_b i) >>= λ n. Ok (sym e_d i + 256 * n.0, n.1))
+
+pub bind_is : {A B : Type 0} (r : Result A ℕ) (f : A → Result B ℕ) (total : Result B ℕ) (x : A) → r ≡ Ok x → total ≡ (r >>= f) → total ≡ f x
+bind_is r f total x is e = e ∙ ap (λ m. m >>= f) is
