@@ -13,7 +13,7 @@ use Rattle.hb_types.specs.Numbers.{signed_four, four}
 use Rattle.hb_types.specs.Rows.{value_bytes, row_bytes, HasBytes}
 use Rattle.hb_codec.specs.declared.rows.Room.{Room}
 use Rattle.hb_codec.specs.Readers.{◌>>=◌, number_in, exactly_in, many_in}
-use Rattle.hb_codec.specs.RowReaders.{integer_fits, shortest_text, longest_text, integer_in, text_in, value_in, room_after, fewest, most, row_in}
+use Rattle.hb_codec.specs.RowReaders.{integer_fits, shortest_text, longest_text, integer_in, text_in, kind_in, value_in, room_after, fewest, most, row_in}
 use Rattle.hb_codec.proofs.Calculus.{Reads, Bind, Pure, reads_bind, reads_pure, reads_same, reads_choice, choose}
 use Rattle.hb_codec.proofs.Digits.{IsNumber, IsExactly, reads_number, reads_exactly, by_test}
 use Rattle.hb_codec.proofs.Widths.{digits_one, digits_four}
@@ -69,7 +69,7 @@ Split : ℕ → Room → Value → List ℕ → Type 0
 Split n room = Bind (IsNumber 0 1 (kind_from n room) 2) (Kinds n room)
 
 reads_split : (n : ℕ) (room : Room) → Valid (suc n) room → Reads (Split n room) (value_in n room)
-unfolding Split value_in
+unfolding Split value_in kind_in
 reads_split n room v =
     reads_bind _ (Kinds n room) (number_in 0 1 (kind_from n room) 2) (λ kind bytes. cond (kind == 1) (integer_in bytes) (text_in n room bytes))
     (reads_number 0 1 (kind_from n room) 2 (inl refl) (kind_low (integer_fits n room)) (omega arith))

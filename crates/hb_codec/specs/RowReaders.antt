@@ -28,10 +28,13 @@ text_in n room bytes = do
   text ← exactly_in len.0 len.1
   Ok (Text text.0, text.1)
 
+unfoldable pub kind_in : ℕ → Room → List ℕ → Result (ℕ × List ℕ) ℕ
+kind_in n room bytes = number_in 0 1 (if integer_fits n room then 1 else 2) 2 bytes
+
 -- a value before n more
 unfoldable pub value_in : ℕ → Room → List ℕ → Result (Value × List ℕ) ℕ
 value_in n room bytes = do
-  kind ← number_in 0 1 (if integer_fits n room then 1 else 2) 2 bytes
+  kind ← kind_in n room bytes
   if kind.0 == 1 then integer_in kind.1 else text_in n room kind.1
 
 -- the room behind a value
@@ -50,3 +53,12 @@ row_in low high bytes = do
   format ← number_in 0 1 1 1 bytes
   count ← number_in 0 1 (fewest low) (most high) format.1
   many_in value_in room_after count.0 (record { low = low - 2; high = high - 2 }) count.1
+
+-- a value's length, without the value
+unfoldable pub size_in : ℕ → Room → List ℕ → Result (ℕ × List ℕ) ℕ
+size_in n room bytes = do
+  value ← value_in n room bytes
+  Ok (length (value_bytes value.0), value.1)
+
+abbrev pub behind : {X : Type 0} → Result (X × List ℕ) ℕ → Result (List ℕ) ℕ
+behind read = read >>= λ x. Ok x.1
