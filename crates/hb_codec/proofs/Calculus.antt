@@ -3,7 +3,10 @@ use Rattle.std.proofs.Common.{◌≡◌, ◌⊎◌, inl, inr, ⊎_elim, ℕ, zer
 use Rattle.std.proofs.lemmas.List.{append-nil, append_cancel_left, take_at, drop_at, length-take, length-drop, length-replicate}
 use Rattle.std.proofs.lemmas.Bool.{leb-true, le-leb, leb-false}
 use Rattle.hb_codec.specs.Reading.{Begins, IsPlace, Misreads, Misspells, Finds, OneForm}
-use Rattle.hb_codec.specs.Readers.{◌>>=◌, byte_in, exactly_in}
+use Rattle.hb_codec.specs.Readers.{◌>>=◌, byte_in, exactly_in, Tells}
+use Rattle.hb_codec.specs.declared.fault.CodecFault.{CodecFault}
+use Rattle.hb_codec.specs.declared.fault.CodecFault.TheVariants as codec
+use Rattle.std.specs.Prelude.{IfOk, IsErrOf}
 
 -- where reading stops: nothing longer begins a spelling
 pub record Stops {X : Type 0} (spells : X → List ℕ → Type 0) (bytes : List ℕ) (left : ℕ) : Type 0 where
@@ -280,3 +283,16 @@ module _ {X : Type 0} (spells : X → List ℕ → Type 0) (read : List ℕ → 
           (sym (append_assoc a c.0 is.1) ∙ ap (λ (l : List ℕ). l ++ is.1) (sym c.1) ∙ sym (append-nil (f ++ is.1))) in
           omega (arith, ap length g.0, length-append f is.1, ap length c.1, length-append a c.0, ap length c.2, length-append c.0 b))
           (cuts f b a rest (sym split ∙ split_a))
+
+  -- the same of what a function tells of the whole of the bytes
+  pub tells_ok : (bytes : List ℕ) (result : Result X CodecFault) → Tells read bytes result → IfOk result (λ x. spells x bytes)
+  tells_ok bytes (Ok x) told = spelled bytes x told.0 told.1 told.2
+  tells_ok bytes (Err fault) told = tt
+
+  pub tells_err : (bytes : List ℕ) (result : Result X CodecFault) → Tells read bytes result → (place : ℕ) → IsErrOf result (codec.NotARecord place) → Misspells spells bytes place
+  tells_err bytes (Ok x) told place is = absurd (cc is)
+  tells_err bytes (Err codec.NoMemory) told place is = absurd (cc is)
+  tells_err bytes (Err (codec.NotARecord at)) told place is =
+      let same : at ≡ place = cc is in
+      subst (Misspells spells bytes) same
+      (⊎_elim (λ l. subst (Misspells spells bytes) (sym l.2) (misspells bytes l.0 l.1)) (λ l. subst (Misspells spells bytes) (sym l.4) (trailing bytes l.0 l.1 l.2 l.3)) told)

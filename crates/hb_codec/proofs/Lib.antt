@@ -4,4 +4,5 @@ mod Widths
 mod Lists
 mod Signed
 mod RowGrammar
+mod RowLoop
 mod NumberAt

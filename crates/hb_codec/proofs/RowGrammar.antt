@@ -10,7 +10,8 @@ use Rattle.hb_types.specs.declared.value.Value.{Value}
 use Rattle.hb_types.specs.declared.value.Value.TheVariants.{Int, Text}
 use Rattle.hb_types.specs.Lists.{joined}
 use Rattle.hb_types.specs.Numbers.{signed_four, four}
-use Rattle.hb_types.specs.Rows.{value_bytes, row_bytes, HasBytes}
+use Rattle.std.proofs.lemmas.List.Elements.{All-from_recursion, recursion_from_All}
+use Rattle.hb_types.specs.Rows.{value_bytes, row_bytes, HasBytes, HaveRow, IsRowOf}
 use Rattle.hb_codec.specs.declared.rows.Room.{Room}
 use Rattle.hb_codec.specs.Readers.{◌>>=◌, number_in, exactly_in, many_in}
 use Rattle.hb_codec.specs.RowReaders.{integer_fits, shortest_text, longest_text, integer_in, text_in, kind_in, value_in, room_after, fewest, most, row_in}
@@ -333,3 +334,19 @@ module _ (low high : ℕ) (has : HasRows low high) where
 
   pub reads_row : Reads (IsRowWithin low high) (row_in low high)
   reads_row = reads_same RowSplit (IsRowWithin low high) (row_in low high) row_to row_from reads_row_split
+
+-- ---- every row
+
+pub reads_any_row : Reads (λ (values : List Value) b. IsRowOf b values) (row_in 0 65537)
+reads_any_row =
+    reads_same (IsRowWithin 0 65537) (λ (values : List Value) b. IsRowOf b values) (row_in 0 65537)
+    (λ values b is. record { values_fit = record { few = is.few; fit = All-from_recursion HasBytes values is.fit }; spelled = is.is })
+    (λ values b is. from values b is)
+    (reads_row 0 65537 (record { order = omega arith; least = omega arith; counts = omega arith }))
+  where
+    from : (values : List Value) (b : List ℕ) → IsRowOf b values → IsRowWithin 0 65537 values b
+    from values b is =
+        let fit = recursion_from_All HasBytes values is.values_fit.fit in
+        let long = values_long values fit in
+        let few = is.values_fit.few in
+        record { few = few; fit = fit; is = is.spelled; above = omega arith; below = omega (arith, ap length is.spelled, long.1) }

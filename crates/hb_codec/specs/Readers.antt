@@ -1,5 +1,7 @@
 -- Reading from left to right: the value at the front and the bytes behind it, or how many bytes are left where no spelling goes on.
-use Rattle.std.specs.Prelude.{◌≡◌, ℕ, zero, suc, ◌+◌, ◌-◌, ◌*◌, ◌/◌, ◌%◌, Bool, nat_lt, nat_le, ◌&&◌, if◌then◌else◌, List, [], ◌∷◌, length, take, drop, Result, Ok, Err}
+use Rattle.std.specs.Prelude.{◌≡◌, ◌⊎◌, ◌≤◌, ℕ, zero, suc, ◌+◌, ◌-◌, ◌*◌, ◌/◌, ◌%◌, Bool, nat_lt, nat_le, ◌&&◌, if◌then◌else◌, List, [], ◌∷◌, length, take, drop, Result, Ok, Err}
+use Rattle.hb_codec.specs.declared.fault.CodecFault.{CodecFault}
+use Rattle.hb_codec.specs.declared.fault.CodecFault.TheVariants as codec
 use Rattle.hb_codec.specs.declared.fault.ReadFault.{ReadFault}
 use Rattle.hb_codec.specs.declared.fault.ReadFault.TheVariants as fault
 
@@ -59,3 +61,13 @@ many_in step next (suc n) state bytes = do
   first ← step n state bytes
   others ← many_in step next n (next n state first.0) first.1
   Ok (first.0 ∷ others.0, others.1)
+
+-- what stands behind what was read
+abbrev pub behind : {X : Type 0} → Result (X × List ℕ) ℕ → Result (List ℕ) ℕ
+behind read = read >>= λ x. Ok x.1
+
+-- what reading tells of the whole of the bytes
+abbrev pub Tells : {X : Type 0} → (List ℕ → Result (X × List ℕ) ℕ) → List ℕ → Result X CodecFault → Type 0
+Tells read bytes (Ok x) = (rest : List ℕ) × (read bytes ≡ Ok (x, rest)) × (length rest ≡ 0)
+Tells read bytes (Err codec.NoMemory) = Unit {0}
+Tells {X} read bytes (Err (codec.NotARecord place)) = ((left : ℕ) × (read bytes ≡ Err left) × (place ≡ length bytes - left)) ⊎ ((x : X) × (rest : List ℕ) × (read bytes ≡ Ok (x, rest)) × (1 ≤ length rest) × (place ≡ length bytes - length rest))

@@ -59,6 +59,3 @@ unfoldable pub size_in : ℕ → Room → List ℕ → Result (ℕ × List ℕ) 
 size_in n room bytes = do
   value ← value_in n room bytes
   Ok (length (value_bytes value.0), value.1)
-
-abbrev pub behind : {X : Type 0} → Result (X × List ℕ) ℕ → Result (List ℕ) ℕ
-behind read = read >>= λ x. Ok x.1
