@@ -5,4 +5,6 @@ mod Lists
 mod Signed
 mod RowGrammar
 mod RowLoop
+mod Ranks
+mod PlaceGrammar
 mod NumberAt

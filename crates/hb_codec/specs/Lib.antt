@@ -1,3 +1,4 @@
 pub mod Reading
 pub mod Readers
 pub mod RowReaders
+pub mod PlaceReaders
