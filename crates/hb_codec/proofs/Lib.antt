@@ -7,4 +7,5 @@ mod RowGrammar
 mod RowLoop
 mod Ranks
 mod PlaceGrammar
+mod ChangeGrammar
 mod NumberAt

@@ -335,6 +335,13 @@ module _ (low high : ℕ) (has : HasRows low high) where
   pub reads_row : Reads (IsRowWithin low high) (row_in low high)
   reads_row = reads_same RowSplit (IsRowWithin low high) (row_in low high) row_to row_from reads_row_split
 
+-- a row has 2 bytes, or from 4 on
+pub row_long : (values : List Value) (row : List ℕ) → AllByRecursion HasBytes values → row ≡ row_bytes values → (length row ≡ 2) ⊎ (4 ≤ length row)
+row_long [] row fit is = inl (ap length is)
+row_long (v ∷ vs) row fit is =
+    let long = values_long (v ∷ vs) fit in
+    inr (omega (arith, ap length is, long.0))
+
 -- ---- every row
 
 pub reads_any_row : Reads (λ (values : List Value) b. IsRowOf b values) (row_in 0 65537)

@@ -1,6 +1,7 @@
 //! The bytes of rows, changes and records, both ways.
 #![tactic(auto)]
 
+mod changes;
 mod fault;
 mod reading;
 mod rows;
