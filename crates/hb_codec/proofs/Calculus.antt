@@ -3,7 +3,7 @@ use Rattle.std.proofs.Common.{◌≡◌, ◌⊎◌, inl, inr, ⊎_elim, ℕ, zer
 use Rattle.std.proofs.lemmas.List.{append-nil, append_cancel_left, take_at, drop_at, length-take, length-drop, length-replicate}
 use Rattle.std.proofs.lemmas.Bool.{leb-true, le-leb, leb-false}
 use Rattle.hb_codec.specs.Reading.{Begins, IsPlace, Misreads, Misspells, Finds, OneForm}
-use Rattle.hb_codec.specs.Readers.{◌>>=◌, byte_in, exactly_in, Tells}
+use Rattle.hb_codec.specs.Readers.{◌>>=◌, byte_in, exactly_in, Tells, TellsFront}
 use Rattle.hb_codec.specs.declared.fault.CodecFault.{CodecFault}
 use Rattle.hb_codec.specs.declared.fault.CodecFault.TheVariants as codec
 use Rattle.std.specs.Prelude.{IfOk, IsErrOf}
@@ -296,3 +296,14 @@ module _ {X : Type 0} (spells : X → List ℕ → Type 0) (read : List ℕ → 
       let same : at ≡ place = cc is in
       subst (Misspells spells bytes) same
       (⊎_elim (λ l. subst (Misspells spells bytes) (sym l.2) (misspells bytes l.0 l.1)) (λ l. subst (Misspells spells bytes) (sym l.4) (trailing bytes l.0 l.1 l.2 l.3)) told)
+
+  pub front_ok : (bytes : List ℕ) (result : Result (X × ℕ) CodecFault) → TellsFront read bytes result → IfOk result (λ found. Finds spells bytes found.0 found.1)
+  front_ok bytes (Ok found) told = subst (Finds spells bytes found.0) (sym told.2) (finds bytes found.0 told.0 told.1)
+  front_ok bytes (Err fault) told = tt
+
+  pub front_err : (bytes : List ℕ) (result : Result (X × ℕ) CodecFault) → TellsFront read bytes result → (place : ℕ) → IsErrOf result (codec.NotARecord place) → Misreads spells bytes place
+  front_err bytes (Ok found) told place is = absurd (cc is)
+  front_err bytes (Err codec.NoMemory) told place is = absurd (cc is)
+  front_err bytes (Err (codec.NotARecord at)) told place is =
+      let same : at ≡ place = cc is in
+      subst (Misreads spells bytes) (sym told.2 ∙ same) (misreads bytes told.0 told.1)

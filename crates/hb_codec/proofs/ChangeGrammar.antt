@@ -16,7 +16,9 @@ use Rattle.hb_codec.specs.Reading.{Begins}
 use Rattle.hb_codec.specs.Readers.{◌>>=◌, byte_in, number_in, most_above, behind}
 use Rattle.hb_codec.specs.RowReaders.{row_in}
 use Rattle.hb_codec.specs.PlaceReaders.{place_rank, places, place_in}
-use Rattle.hb_codec.specs.ChangeReaders.{pages, length_fits, row_length_in, row_bytes_in, some_row_in, row_part_in, change_in, slot_after}
+use Rattle.hb_codec.specs.ChangeReaders.{pages, length_fits, row_length_in, row_bytes_in, some_row_in, row_part_in, change_in, slot_after, whole_slot}
+use Rattle.hb_codec.specs.Spellings.{IsChangeOf}
+use Rattle.hb_codec.proofs.Ranks.{place_below}
 use Rattle.hb_codec.proofs.Calculus.{Reads, Stops, Bind, Pure, done, ok_is, reads_bind, reads_pure, reads_same, reads_choice, choose}
 use Rattle.hb_codec.proofs.Digits.{IsByte, IsNumber, reads_byte, reads_number, by_test}
 use Rattle.hb_codec.proofs.Widths.{digits_one}
@@ -164,11 +166,11 @@ module _ {X : Type 0} (G : X → List ℕ → Type 0) (r : List ℕ → Result (
 
 -- ---- a row or none
 
-abbrev RowFits : Option (List ℕ) → Type 0
+abbrev pub RowFits : Option (List ℕ) → Type 0
 RowFits None = Unit {0}
 RowFits (Some row) = IsRow row
 
-abbrev row_part : Option (List ℕ) → List ℕ
+abbrev pub row_part : Option (List ℕ) → List ℕ
 row_part None = 0 ∷ []
 row_part (Some row) = 1 ∷ two (length row) ++ row
 
@@ -342,15 +344,15 @@ pub record SlotFits (n : ℕ) (slot : Slot) : Type 0 where
   pub some : slot.least + n ≤ places
   pub enough : 15 * n ≤ slot.room
 
-change_is : (p : Place) (o : Option (List ℕ)) → change_bytes (record { place = p; row = o }) ≡ place_bytes p ++ row_part o
+pub change_is : (p : Place) (o : Option (List ℕ)) → change_bytes (record { place = p; row = o }) ≡ place_bytes p ++ row_part o
 change_is p None = refl
 change_is p (Some row) = refl
 
-fits_to : (p : Place) (o : Option (List ℕ)) → IsPlace p → RowFits o → IsChange (record { place = p; row = o })
+pub fits_to : (p : Place) (o : Option (List ℕ)) → IsPlace p → RowFits o → IsChange (record { place = p; row = o })
 fits_to p None is fits = (is, fits)
 fits_to p (Some row) is fits = (is, fits)
 
-fits_from : (p : Place) (o : Option (List ℕ)) → IsChange (record { place = p; row = o }) → IsPlace p × RowFits o
+pub fits_from : (p : Place) (o : Option (List ℕ)) → IsChange (record { place = p; row = o }) → IsPlace p × RowFits o
 fits_from p None is = (is.0, is.1)
 fits_from p (Some row) is = (is.0, is.1)
 
@@ -413,3 +415,23 @@ module _ (n : ℕ) (slot : Slot) (v : SlotFits (suc n) slot) where
       (reads_place slot.least last (omega (arith, v.some)) (omega arith))
       (λ p a is. reads_bind _ (λ o. Pure (record { place = p; row = o })) (row_part_in left) (λ o bytes. Ok (record { place = p; row = o }, bytes))
       (reads_part left (omega (arith, v.enough))) (λ o b are. reads_pure (record { place = p; row = o }))))
+
+-- ---- every change
+
+pub reads_any_change : Reads IsChangeOf (change_in 0 whole_slot)
+reads_any_change =
+    reads_same (IsChangeAt 0 whole_slot) IsChangeOf (change_in 0 whole_slot)
+    (λ c bytes is. record { fits = is.fits; spelled = is.is })
+    (λ c bytes is. from c bytes is)
+    (reads_change 0 whole_slot (record { some = omega arith; enough = omega arith }))
+  where
+    part_long : (o : Option (List ℕ)) → RowFits o → length (row_part o) ≤ 4003
+    part_long None fits = omega arith
+    part_long (Some row) fits = omega (arith, fits.0)
+
+    from : (c : Change) (bytes : List ℕ) → IsChangeOf c bytes → IsChangeAt 0 whole_slot c bytes
+    from c bytes is =
+        let fits = fits_from c.place c.row is.fits in
+        let below = place_below c.place fits.0 in
+        let long = part_long c.row fits.1 in
+        record { fits = is.fits; is = is.spelled; above = omega arith; below = omega (arith, below); room = omega (arith, ap length is.spelled, ap length (change_is c.place c.row), long) }

@@ -1,4 +1,5 @@
 pub mod Reading
+pub mod Spellings
 pub mod Readers
 pub mod RowReaders
 pub mod PlaceReaders

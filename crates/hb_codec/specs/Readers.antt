@@ -71,3 +71,9 @@ abbrev pub Tells : {X : Type 0} → (List ℕ → Result (X × List ℕ) ℕ) �
 Tells read bytes (Ok x) = (rest : List ℕ) × (read bytes ≡ Ok (x, rest)) × (length rest ≡ 0)
 Tells read bytes (Err codec.NoMemory) = Unit {0}
 Tells {X} read bytes (Err (codec.NotARecord place)) = ((left : ℕ) × (read bytes ≡ Err left) × (place ≡ length bytes - left)) ⊎ ((x : X) × (rest : List ℕ) × (read bytes ≡ Ok (x, rest)) × (1 ≤ length rest) × (place ≡ length bytes - length rest))
+
+-- what reading tells of a front of the bytes, with its length
+abbrev pub TellsFront : {X : Type 0} → (List ℕ → Result (X × List ℕ) ℕ) → List ℕ → Result (X × ℕ) CodecFault → Type 0
+TellsFront read bytes (Ok found) = (rest : List ℕ) × (read bytes ≡ Ok (found.0, rest)) × (found.1 ≡ length bytes - length rest)
+TellsFront read bytes (Err codec.NoMemory) = Unit {0}
+TellsFront read bytes (Err (codec.NotARecord place)) = (left : ℕ) × (read bytes ≡ Err left) × (place ≡ length bytes - left)

@@ -3,7 +3,10 @@
 
 mod changes;
 mod fault;
+mod places;
 mod reading;
 mod rows;
 
+pub use changes::decode_change;
 pub use fault::CodecFault;
+pub use rows::decode_row;
