@@ -8,4 +8,6 @@ mod RowLoop
 mod Ranks
 mod PlaceGrammar
 mod ChangeGrammar
+mod Ordered
+mod LockGrammar
 mod NumberAt

@@ -4,3 +4,5 @@ pub mod Readers
 pub mod RowReaders
 pub mod PlaceReaders
 pub mod ChangeReaders
+pub mod LockReaders
+pub mod RecordReaders
