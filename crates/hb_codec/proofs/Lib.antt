@@ -10,4 +10,5 @@ mod PlaceGrammar
 mod ChangeGrammar
 mod Ordered
 mod LockGrammar
+mod RecordGrammar
 mod NumberAt

@@ -14,7 +14,7 @@ use Rattle.hb_types.specs.declared.places.Path.{Path}
 use Rattle.hb_types.specs.declared.places.Path.TheVariants.{Whole, Group, Key}
 use Rattle.hb_types.specs.Lists.{joined}
 use Rattle.hb_types.specs.Numbers.{two, eight}
-use Rattle.hb_types.specs.Places.{path_cmp, IsPath}
+use Rattle.hb_types.specs.Places.{path_cmp, place_cmp, space_cmp, IsPath}
 use Rattle.hb_types.specs.Records.{space_bytes, place_bytes, mode_byte, lock_bytes}
 use Rattle.hb_codec.specs.Readers.{◌>>=◌, number_in, many_in}
 use Rattle.hb_codec.specs.PlaceReaders.{space_rank, group_rank, place_rank, places, space_in, group_in, place_in}
@@ -47,11 +47,11 @@ goes_path (Whole s) (Whole t) a b = goes_space s t a b
 goes_path (Whole s) (Group t h) a b = omega (arith, space_below s a)
 goes_path (Whole s) (Key q) a b = omega (arith, space_below s a)
 goes_path (Group s g) (Whole t) a b = omega (arith, space_below t b)
-goes_path (Group s g) (Group t h) a b = goes_up (ordering_then _ _) (group_rank s g) (group_rank t h) groups_from (goes_group s t g h a.0 b.0 a.1 b.1)
+goes_path (Group s g) (Group t h) a b = goes_up (ordering_then (space_cmp s t) (nat_cmp g h)) (group_rank s g) (group_rank t h) groups_from (goes_group s t g h a.0 b.0 a.1 b.1)
 goes_path (Group s g) (Key q) a b = omega (arith, group_below s g a.0 a.1)
 goes_path (Key p) (Whole t) a b = omega (arith, space_below t b)
 goes_path (Key p) (Group t h) a b = omega (arith, group_below t h b.0 b.1)
-goes_path (Key p) (Key q) a b = goes_up _ (place_rank p) (place_rank q) keys_from (goes_place p q a b)
+goes_path (Key p) (Key q) a b = goes_up (place_cmp p q) (place_rank p) (place_rank q) keys_from (goes_place p q a b)
 
 pub goes_lock : (l m : Held) → LockFits l → LockFits m → Goes (path_cmp l.path m.path) (path_rank l.path) (path_rank m.path)
 goes_lock l m a b = goes_path l.path m.path a b
@@ -98,7 +98,7 @@ lock_is (Group s g) m = refl
 lock_is (Key p) m = refl
 
 pub lock_long : (l : Held) → length (lock_bytes l) ≡ 16
-lock_long l = ap length (lock_is l.path l.mode) ∙ ap (λ (n : ℕ). 2 + n) (go l.path)
+lock_long l = omega (arith, ap length (lock_is l.path l.mode), go l.path)
   where
     go : (p : Path) → length (path_text p) ≡ 14
     go (Whole s) = refl
@@ -134,7 +134,6 @@ module _ (n least : ℕ) (v : LeastFits (suc n) least) where
       (λ s a is. reads_bind _ (λ z. Pure (Whole s)) (number_in 0 10 0 0) (λ z bytes. Ok (Whole s, bytes)) (reads_number 0 10 0 0 (inl refl) (omega arith) (omega arith)) (λ z b are. reads_pure (Whole s))))
     where
       to : (p : Path) (bytes : List ℕ) → Wholes p bytes → IsPathAt 1 n least p bytes
-      unfolding Wholes
       to p bytes is =
           let s = is.value in
           let z_low = is.is_second.is_first.below in
@@ -148,7 +147,6 @@ module _ (n least : ℕ) (v : LeastFits (suc n) least) where
           (record { fits = is.is_first.fits; at = refl; is = whole; above = above; below = omega arith })
 
       from : (p : Path) (bytes : List ℕ) → IsPathAt 1 n least p bytes → Wholes p bytes
-      unfolding Wholes
       from (Whole s) bytes is =
           let below = space_below s is.fits in
           record {
@@ -173,7 +171,6 @@ module _ (n least : ℕ) (v : LeastFits (suc n) least) where
       (λ g a is. reads_bind _ (λ z. Pure (Group g.0 g.1)) (number_in 0 8 0 0) (λ z bytes. Ok (Group g.0 g.1, bytes)) (reads_number 0 8 0 0 (inl refl) (omega arith) (omega arith)) (λ z b are. reads_pure (Group g.0 g.1))))
     where
       to : (p : Path) (bytes : List ℕ) → GroupPaths p bytes → IsPathAt 2 n least p bytes
-      unfolding GroupPaths
       to p bytes is =
           let g = is.value in
           let z_low = is.is_second.is_first.below in
@@ -187,7 +184,6 @@ module _ (n least : ℕ) (v : LeastFits (suc n) least) where
           (record { fits = (is.is_first.fits, is.is_first.small); at = refl; is = whole; above = omega arith; below = omega arith })
 
       from : (p : Path) (bytes : List ℕ) → IsPathAt 2 n least p bytes → GroupPaths p bytes
-      unfolding GroupPaths
       from (Whole s) bytes is = absurd (omega (arith, is.at))
       from (Group s g) bytes is =
           let below = group_below s g is.fits.0 is.fits.1 in
@@ -212,7 +208,6 @@ module _ (n least : ℕ) (v : LeastFits (suc n) least) where
       (reads_bind _ (λ p. Pure (Key p)) (place_in (least - keys_from) (places - 1 - n)) (λ p bytes. Ok (Key p, bytes)) (reads_place (least - keys_from) (places - 1 - n) (omega (arith, v.some, v.few)) (omega arith)) (λ p a is. reads_pure (Key p)))
     where
       to : (p : Path) (bytes : List ℕ) → KeyPaths p bytes → IsPathAt 3 n least p bytes
-      unfolding KeyPaths
       to p bytes is =
           let few = v.few in
           let above = is.is_first.above in
@@ -222,7 +217,6 @@ module _ (n least : ℕ) (v : LeastFits (suc n) least) where
           (record { fits = is.is_first.fits; at = refl; is = whole; above = omega arith; below = omega arith })
 
       from : (p : Path) (bytes : List ℕ) → IsPathAt 3 n least p bytes → KeyPaths p bytes
-      unfolding KeyPaths
       from (Whole s) bytes is = absurd (omega (arith, is.at))
       from (Group s g) bytes is = absurd (omega (arith, is.at))
       from (Key p) bytes is =

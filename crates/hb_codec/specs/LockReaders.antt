@@ -22,7 +22,7 @@ path_rank (Key p) = keys_from + place_rank p
 
 -- how many paths there are
 abbrev pub paths : ℕ
-paths = 5192296858534827628530777808498048
+paths = 5192296858534827628811975600898048
 
 abbrev pub mode_of : ℕ → Mode
 mode_of m = if m == 0 then IS else (if m == 1 then IX else (if m == 2 then S else (if m == 3 then SIX else X)))
