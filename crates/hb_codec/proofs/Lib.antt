@@ -11,4 +11,5 @@ mod ChangeGrammar
 mod Ordered
 mod LockGrammar
 mod RecordGrammar
+mod PrepareGrammar
 mod NumberAt

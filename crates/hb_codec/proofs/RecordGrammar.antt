@@ -34,44 +34,44 @@ use Rattle.hb_codec.proofs.LockGrammar.{LockFits, goes_lock, path_below, lock_lo
 use Rattle.hb_codec.proofs.ChangeGrammar.{IsChangeAt, SlotFits, reads_change, change_is, fits_from, RowFits, row_part}
 
 -- the numbers of a log
-abbrev IsEight : ℕ → ℕ → List ℕ → Type 0
+abbrev pub IsEight : ℕ → ℕ → List ℕ → Type 0
 IsEight low = IsNumber 0 8 low greatest
 
-reads_eight : (low : ℕ) → low ≤ 1 → Reads (IsEight low) (number_in 0 8 low greatest)
+pub reads_eight : (low : ℕ) → low ≤ 1 → Reads (IsEight low) (number_in 0 8 low greatest)
 reads_eight low le = reads_number 0 8 low greatest (inl refl) (omega arith) (omega arith)
 
-eight_is : (low n : ℕ) (bytes : List ℕ) → IsEight low n bytes → bytes ≡ eight n
+pub eight_is : (low n : ℕ) (bytes : List ℕ) → IsEight low n bytes → bytes ≡ eight n
 eight_is low n bytes is = let below = is.below in is.is ∙ digits_eight n (omega arith)
 
-to_eight : (low n : ℕ) → low ≤ n → n ≤ greatest → IsEight low n (eight n)
+pub to_eight : (low n : ℕ) → low ≤ n → n ≤ greatest → IsEight low n (eight n)
 to_eight low n above below = record { above = above; below = below; is = sym (digits_eight n (omega arith)) }
 
-last_is : {bytes front back : List ℕ} → bytes ≡ front ++ back → back ≡ [] → bytes ≡ front
+pub last_is : {bytes front back : List ℕ} → bytes ≡ front ++ back → back ≡ [] → bytes ≡ front
 last_is {bytes} {front} {back} split none = split ∙ ap (λ (l : List ℕ). front ++ l) none ∙ append-nil front
 
 -- the body behind a tag
-abbrev Behind : ℕ → LogItem → List ℕ → Type 0
+abbrev pub Behind : ℕ → LogItem → List ℕ → Type 0
 Behind tag item back = IsBodyOf item (tag ∷ back)
 
 behind_is : (tag k : ℕ) (back l : List ℕ) → tag ∷ back ≡ k ∷ l → (tag ≡ k) × (back ≡ l)
 behind_is tag k back l e = (cc, cc)
 
 -- the tag of an item, and what stands behind it
-abbrev tag_of : LogItem → ℕ
+abbrev pub tag_of : LogItem → ℕ
 tag_of (Prepare tx floor locks changes) = 1
 tag_of (Commit tx number) = 2
 tag_of (Abort tx) = 3
 tag_of (Decision tx number nodes) = 4
 tag_of (Ids upto) = 5
 
-tagged : (item : LogItem) → (l : List ℕ) × (body_bytes item ≡ tag_of item ∷ l)
+pub tagged : (item : LogItem) → (l : List ℕ) × (body_bytes item ≡ tag_of item ∷ l)
 tagged (Prepare tx floor locks changes) = (_, refl)
 tagged (Commit tx number) = (_, refl)
 tagged (Abort tx) = (_, refl)
 tagged (Decision tx number nodes) = (_, refl)
 tagged (Ids upto) = (_, refl)
 
-tag_is : (tag : ℕ) (item : LogItem) (back : List ℕ) → Behind tag item back → tag_of item ≡ tag
+pub tag_is : (tag : ℕ) (item : LogItem) (back : List ℕ) → Behind tag item back → tag_of item ≡ tag
 tag_is tag item back is = let t = tagged item in sym (behind_is tag (tag_of item) back t.0 (is.spelled ∙ t.1)).0
 
 -- ---- Commit, Abort, Ids
@@ -104,7 +104,7 @@ commits_from (Abort tx) back is = absurd (omega (arith, tag_is 2 (Abort tx) back
 commits_from (Decision tx number nodes) back is = absurd (omega (arith, tag_is 2 (Decision tx number nodes) back is))
 commits_from (Ids upto) back is = absurd (omega (arith, tag_is 2 (Ids upto) back is))
 
-reads_commit : Reads (Behind 2) commit_in
+pub reads_commit : Reads (Behind 2) commit_in
 unfolding Commits commit_in
 reads_commit =
     reads_same Commits (Behind 2) commit_in commits_to commits_from
@@ -129,7 +129,7 @@ aborts_from (Abort tx) back is = record { value = tx.0; front = eight tx.0; back
 aborts_from (Decision tx number nodes) back is = absurd (omega (arith, tag_is 3 (Decision tx number nodes) back is))
 aborts_from (Ids upto) back is = absurd (omega (arith, tag_is 3 (Ids upto) back is))
 
-reads_abort : Reads (Behind 3) abort_in
+pub reads_abort : Reads (Behind 3) abort_in
 unfolding Aborts abort_in
 reads_abort =
     reads_same Aborts (Behind 3) abort_in aborts_to aborts_from
@@ -153,7 +153,7 @@ ids_from (Abort tx) back is = absurd (omega (arith, tag_is 5 (Abort tx) back is)
 ids_from (Decision tx number nodes) back is = absurd (omega (arith, tag_is 5 (Decision tx number nodes) back is))
 ids_from (Ids upto) back is = record { value = upto; front = eight upto; back = []; split = ap (λ (l : List ℕ). drop 1 l) is.spelled; is_first = to_eight 1 upto is.fits.0.0 is.fits.0.1; is_second = record { is = refl; empty = refl } }
 
-reads_ids : Reads (Behind 5) ids_in
+pub reads_ids : Reads (Behind 5) ids_in
 unfolding IdsOf ids_in
 reads_ids =
     reads_same IdsOf (Behind 5) ids_in ids_to ids_from
@@ -302,7 +302,7 @@ decisions_from (Decision tx number nodes) back is =
     }
 decisions_from (Ids upto) back is = absurd (omega (arith, tag_is 4 (Ids upto) back is))
 
-reads_decision : Reads (Behind 4) decision_in
+pub reads_decision : Reads (Behind 4) decision_in
 unfolding Decisions decision_in
 reads_decision =
     reads_same Decisions (Behind 4) decision_in decisions_to decisions_from
