@@ -1,5 +1,5 @@
 -- Locks by ascending path, and their readers.
-use Rattle.std.proofs.Common.{◌≡◌, ◌⊎◌, inl, inr, ⊎_elim, ℕ, zero, suc, ◌+◌, ◌-◌, ◌≤◌, ◌<◌, Bool, true, false, cond, List, [], ◌∷◌, ◌++◌, length, drop, map, Result, Ok, Err, refl, sym, ◌∙◌, ap, subst, arith, length-append}
+use Rattle.std.proofs.Common.{◌≡◌, ◌⊎◌, inl, inr, ⊎_elim, ℕ, zero, suc, ◌+◌, ◌-◌, min, ◌≤◌, ◌<◌, Bool, true, false, cond, List, [], ◌∷◌, ◌++◌, length, drop, map, Result, Ok, Err, refl, sym, ◌∙◌, ap, subst, arith, length-append}
 use Rattle.std.specs.Prelude.{◌==◌, nat_lt}
 use Rattle.std.specs.List.{AllByRecursion}
 use Rattle.std.specs.Ordering.{nat_cmp, ordering_then}
@@ -124,13 +124,13 @@ level_of (Key p) = (omega arith, omega arith)
 
 module _ (n least : ℕ) (v : LeastFits (suc n) least) where
   Wholes : Path → List ℕ → Type 0
-  Wholes = Bind (IsSpaceIn least 4294967295) (λ s. Bind (IsNumber 0 10 0 0) (λ z. Pure (Whole s)))
+  Wholes = Bind (IsSpaceIn (min least 4294967295) 4294967295) (λ s. Bind (IsNumber 0 10 0 0) (λ z. Pure (Whole s)))
 
   reads_whole : least < groups_from → Reads (IsPathAt 1 n least) (whole_in least)
   unfolding Wholes whole_in
   reads_whole low =
       reads_same Wholes (IsPathAt 1 n least) (whole_in least) (λ p bytes is. to p bytes is) (λ p bytes is. from p bytes is)
-      (reads_bind _ (λ s. Bind (IsNumber 0 10 0 0) (λ z. Pure (Whole s))) (space_in least 4294967295) (λ s bytes. number_in 0 10 0 0 bytes >>= λ z. Ok (Whole s, z.1)) (reads_space least 4294967295 (omega arith) (omega arith))
+      (reads_bind _ (λ s. Bind (IsNumber 0 10 0 0) (λ z. Pure (Whole s))) (space_in (min least 4294967295) 4294967295) (λ s bytes. number_in 0 10 0 0 bytes >>= λ z. Ok (Whole s, z.1)) (reads_space (min least 4294967295) 4294967295 (omega arith) (omega arith))
       (λ s a is. reads_bind _ (λ z. Pure (Whole s)) (number_in 0 10 0 0) (λ z bytes. Ok (Whole s, bytes)) (reads_number 0 10 0 0 (inl refl) (omega arith) (omega arith)) (λ z b are. reads_pure (Whole s))))
     where
       to : (p : Path) (bytes : List ℕ) → Wholes p bytes → IsPathAt 1 n least p bytes
@@ -144,7 +144,7 @@ module _ (n least : ℕ) (v : LeastFits (suc n) least) where
           let zeros : is.back ≡ two 0 ++ eight 0 = is.is_second.split ∙ ap (λ (l : List ℕ). is.is_second.front ++ l) is.is_second.is_second.empty ∙ append-nil is.is_second.front ∙ is.is_second.is_first.is ∙ ap (λ (k : ℕ). digits 0 10 k) z_is in
           let whole : bytes ≡ path_text (Whole s) = is.split ∙ (λ i. is.is_first.is i ++ zeros i) in
           subst (λ (q : Path). IsPathAt 1 n least q bytes) (sym is.is_second.is_second.is)
-          (record { fits = is.is_first.fits; at = refl; is = whole; above = above; below = omega arith })
+          (record { fits = is.is_first.fits; at = refl; is = whole; above = omega arith; below = omega arith })
 
       from : (p : Path) (bytes : List ℕ) → IsPathAt 1 n least p bytes → Wholes p bytes
       from (Whole s) bytes is =
@@ -154,20 +154,20 @@ module _ (n least : ℕ) (v : LeastFits (suc n) least) where
             front = space_bytes s;
             back = two 0 ++ eight 0;
             split = is.is;
-            is_first = record { fits = is.fits; is = refl; above = is.above; below = omega arith };
+            is_first = record { fits = is.fits; is = refl; above = omega (arith, is.above); below = omega arith };
             is_second = record { value = 0; front = two 0 ++ eight 0; back = []; split = refl; is_first = record { above = omega arith; below = omega arith; is = refl }; is_second = record { is = refl; empty = refl } };
           }
       from (Group s g) bytes is = absurd (omega (arith, is.at))
       from (Key p) bytes is = absurd (omega (arith, is.at))
 
   GroupPaths : Path → List ℕ → Type 0
-  GroupPaths = Bind (IsGroupIn (least - groups_from) 281474976710655) (λ g. Bind (IsNumber 0 8 0 0) (λ z. Pure (Group g.0 g.1)))
+  GroupPaths = Bind (IsGroupIn (min (least - groups_from) 281474976710655) 281474976710655) (λ g. Bind (IsNumber 0 8 0 0) (λ z. Pure (Group g.0 g.1)))
 
   reads_group_path : least < keys_from → Reads (IsPathAt 2 n least) (group_path_in least)
   unfolding GroupPaths group_path_in
   reads_group_path low =
       reads_same GroupPaths (IsPathAt 2 n least) (group_path_in least) (λ p bytes is. to p bytes is) (λ p bytes is. from p bytes is)
-      (reads_bind _ (λ g. Bind (IsNumber 0 8 0 0) (λ z. Pure (Group g.0 g.1))) (group_in (least - groups_from) 281474976710655) (λ g bytes. number_in 0 8 0 0 bytes >>= λ z. Ok (Group g.0 g.1, z.1)) (reads_group (least - groups_from) 281474976710655 (omega arith) (omega arith))
+      (reads_bind _ (λ g. Bind (IsNumber 0 8 0 0) (λ z. Pure (Group g.0 g.1))) (group_in (min (least - groups_from) 281474976710655) 281474976710655) (λ g bytes. number_in 0 8 0 0 bytes >>= λ z. Ok (Group g.0 g.1, z.1)) (reads_group (min (least - groups_from) 281474976710655) 281474976710655 (omega arith) (omega arith))
       (λ g a is. reads_bind _ (λ z. Pure (Group g.0 g.1)) (number_in 0 8 0 0) (λ z bytes. Ok (Group g.0 g.1, bytes)) (reads_number 0 8 0 0 (inl refl) (omega arith) (omega arith)) (λ z b are. reads_pure (Group g.0 g.1))))
     where
       to : (p : Path) (bytes : List ℕ) → GroupPaths p bytes → IsPathAt 2 n least p bytes

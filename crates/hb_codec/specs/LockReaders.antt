@@ -1,5 +1,5 @@
 -- Reading locks by ascending path, as long as there are paths for those that are left. A path's rank counts the paths below it.
-use Rattle.std.specs.Prelude.{◌≡◌, ℕ, ◌+◌, ◌-◌, nat_lt, ◌==◌, if◌then◌else◌, List, Result, Ok, Err}
+use Rattle.std.specs.Prelude.{◌≡◌, ℕ, ◌+◌, ◌-◌, min, nat_lt, ◌==◌, if◌then◌else◌, List, Result, Ok, Err}
 use Rattle.hb_types.specs.declared.lock.Held.{Held}
 use Rattle.hb_types.specs.declared.lock.Mode.{Mode}
 use Rattle.hb_types.specs.declared.lock.Mode.TheVariants.{IS, IX, S, SIX, X}
@@ -32,13 +32,13 @@ first_level least = if nat_lt least groups_from then 1 else (if nat_lt least key
 
 unfoldable pub whole_in : ℕ → List ℕ → Result (Path × List ℕ) ℕ
 whole_in least bytes = do
-  space ← space_in least 4294967295 bytes
+  space ← space_in (min least 4294967295) 4294967295 bytes
   none ← number_in 0 10 0 0 space.1
   Ok (Whole space.0, none.1)
 
 unfoldable pub group_path_in : ℕ → List ℕ → Result (Path × List ℕ) ℕ
 group_path_in least bytes = do
-  group ← group_in (least - groups_from) 281474976710655 bytes
+  group ← group_in (min (least - groups_from) 281474976710655) 281474976710655 bytes
   none ← number_in 0 8 0 0 group.1
   Ok (Group group.0.0 group.0.1, none.1)
 

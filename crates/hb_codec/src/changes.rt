@@ -4,14 +4,15 @@ ghost use Rattle.hb_types.specs.declared.change.Change.{Change};
 ghost use Rattle.hb_types.specs.Records.{change_bytes};
 ghost use Rattle.hb_codec.specs.Reading.{Finds, Misreads};
 ghost use Rattle.hb_codec.specs.Spellings.{IsChangeOf};
-ghost use Rattle.hb_codec.specs.Readers.{Gives, TellsFront, byte_in};
+ghost use Rattle.hb_codec.specs.Readers.{Gives, TellsFront, byte_in, many_in};
 ghost use Rattle.hb_codec.specs.ChangeReaders.{pages as pages_of, length_fits, row_length_in, row_bytes_in, some_row_in, row_part_in, change_in, slot_after as slot_behind, whole_slot};
 
 use crate::fault::{CodecFault, ReadFault};
-use crate::places::{place_at, place_rank};
+use crate::places::{LAST_PLACE, place_at, place_rank};
 use crate::reading::number_at;
 use crate::rows::skip_row;
 use hb_types::{Bytes, Change};
+use sqlite_items::Items;
 use std::alloc::Global;
 
 // The least rank of the next place, and how many bytes are left.
@@ -91,12 +92,9 @@ fn row_part_at(alloc: Global, room: usize, bytes: &[u8]) -> Result<(Option<Bytes
     some_row_at(alloc, room, rest)
 }
 
-// The rank of the last place before which so many others stand.
-const LAST_PLACE: u128 = 5_192_296_858_534_827_628_530_496_329_220_095;
-
 // A change before so many others.
 #[tactic(auto, unfolding(crate::specs::ChangeReaders::change_in))]
-pub(crate) fn change_at(alloc: Global, left: usize, slot: Slot, bytes: &[u8]) -> Result<(Change, &[u8]), ReadFault>
+fn change_at(alloc: Global, left: usize, slot: Slot, bytes: &[u8]) -> Result<(Change, &[u8]), ReadFault>
     requires { left ≤ 4294967295 }
     ensures { Gives (λ x. (x.0, x.1.now)) result (change_in left slot bytes.now) }
 {
@@ -107,13 +105,40 @@ pub(crate) fn change_at(alloc: Global, left: usize, slot: Slot, bytes: &[u8]) ->
 }
 
 fn size_of(change: &Change) -> usize
-    requires { length (change_bytes change.now) ≤ 8388608 }
     ensures { result ≡ length (change_bytes change.now) }
 {
     match &change.row {
         None => 15,
         Some(row) => 17 + row.as_slice().len(),
     }
+}
+
+fn slot_after(slot: Slot, change: &Change) -> Slot
+    ensures { (n : ℕ) → result ≡ slot_behind n slot change.now }
+{
+    Slot {
+        least: place_rank(change.place) + 1,
+        room: slot.room.saturating_sub(size_of(change)),
+    }
+}
+
+// So many changes, in so many bytes at most.
+pub(crate) fn changes_at(alloc: Global, count: usize, room: usize, bytes: &[u8]) -> Result<(Items<Change>, &[u8]), ReadFault>
+    requires { count ≤ 4294967295 }
+    ensures { Gives (λ x. (x.0, x.1.now)) result (many_in change_in slot_behind count (record { least = 0; room = room }) bytes.now) }
+{
+    let mut changes = Vec::with_capacity(alloc, count.min(bytes.len() / 15))?;
+    let mut left = count;
+    let mut slot = Slot { least: 0, room };
+    let mut rest = bytes;
+    while left > 0 {
+        left -= 1;
+        let (change, after) = change_at(alloc, left, slot, rest)?;
+        slot = slot_after(slot, &change);
+        changes.push(change)?;
+        rest = after;
+    }
+    Ok((Items::from_vec(changes), rest))
 }
 
 fn change_of(alloc: Global, bytes: &[u8]) -> Result<(Change, u64), CodecFault>

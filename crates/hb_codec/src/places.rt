@@ -12,6 +12,9 @@ const KEYS: u128 = 18_446_744_073_709_551_616;
 
 const TURN: u64 = 9_223_372_036_854_775_808;
 
+// The rank of the last place.
+pub(crate) const LAST_PLACE: u128 = 5_192_296_858_534_827_628_530_496_329_220_095;
+
 fn key_rank(key: i64) -> u64
     ensures { result ≡ rank_of_key key }
 {
