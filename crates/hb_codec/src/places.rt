@@ -40,7 +40,8 @@ pub(crate) fn group_rank(space: Space, group: u16) -> u64
 }
 
 pub(crate) fn place_rank(place: Place) -> u128
-    ensures { result ≡ rank_of_place place }
+    ensures rank { result ≡ rank_of_place place }
+    ensures below { result < places }
 {
     group_rank(place.space, place.group) as u128 * KEYS + key_rank(place.key) as u128
 }

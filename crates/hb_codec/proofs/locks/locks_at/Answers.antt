@@ -22,7 +22,7 @@ loop-left-preserved c = record {
 
 pub returns-in_err-lock : goal.returns-in_err-lock
 returns-in_err-lock c =
-    let p = err_from_is_err_and c.from_residual.result c.from_residual.ensures.1 in
+    let p = err_from_is_err_and c.from_residual-in_err-lock.result c.from_residual-in_err-lock.ensures.1 in
     rw (p.1, p.2)
     (many_ends lock_in lock_after c.in_err-lock.field-0.0 c.loop-left.locks.items c.loop-left.left (c.loop-left.left - 1) c.loop-left.least c.loop-left.rest.now (many_in lock_in lock_after c.args.count 0 c.args.bytes.now)
     (omega arith) c.in_err-lock.ensures c.loop-left.invariant.so_far)

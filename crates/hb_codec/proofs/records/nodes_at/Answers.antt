@@ -22,7 +22,7 @@ loop-left-preserved c = record {
 
 pub returns-in_err-node : goal.returns-in_err-node
 returns-in_err-node c =
-    let p = err_from_is_err_and c.from_residual.result c.from_residual.ensures.1 in
+    let p = err_from_is_err_and c.from_residual-in_err-node.result c.from_residual-in_err-node.ensures.1 in
     rw (p.1, p.2)
     (many_ends node_in node_after c.in_err-node.field-0.0 c.loop-left.nodes.items c.loop-left.left (c.loop-left.left - 1) c.loop-left.least c.loop-left.rest.now (many_in node_in node_after c.args.count 1 c.args.bytes.now)
     (omega arith) c.in_err-node.ensures.node c.loop-left.invariant.so_far)
