@@ -16,4 +16,4 @@ pub use fault::CodecFault;
 pub use framed::Framed;
 pub use records::decode_record;
 pub use rows::decode_row;
-pub use writing::{encode_change, encode_row};
+pub use writing::{encode_change, encode_record, encode_row};
