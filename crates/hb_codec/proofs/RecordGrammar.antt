@@ -257,6 +257,14 @@ decisions_to item back is =
       spelled = ap (λ (l : List ℕ). 4 ∷ l) whole;
     })
 
+pub few_nodes : (tx : Tx) (number : Number) (nodes : List NodeName) → HasRecord (Decision tx number nodes) → length nodes ≤ 9
+few_nodes tx number nodes has =
+    let m = has.0 in
+    let fit = recursion_from_All NodeFits nodes m.4 in
+    let up = above_none (λ a b. nat_cmp a.0 b.0) node_rank NodeFits goes_node nodes fit m.2 1 (λ x f. f.0) in
+    let room = above_room node_rank NodeFits node_text 10 node_below 1 nodes fit up (omega arith) in
+    omega (arith, room)
+
 decisions_from : (item : LogItem) (back : List ℕ) → Behind 4 item back → Decisions item back
 unfolding Decisions
 decisions_from (Prepare tx floor locks changes) back is = absurd (omega (arith, tag_is 4 (Prepare tx floor locks changes) back is))

@@ -79,7 +79,8 @@ fn put_place(out: &mut Vec<u8>, place: Place) -> Result<(), NoMemory>
 {
     put_space(out, place.space)?;
     put_two(out, place.group)?;
-    put_key(out, place.key)
+    put_key(out, place.key)?;
+    Ok(())
 }
 
 fn put_change(out: &mut Vec<u8>, change: &Change) -> Result<(), NoMemory>
