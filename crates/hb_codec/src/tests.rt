@@ -1,6 +1,8 @@
 // Bytes from outside, and each call once.
 use super::*;
-use hb_types::{Bytes, Change, Held, LogItem, Mode, NodeName, Number, Path, Place, Space, Text, Tx, Value};
+use hb_types::{
+    Bytes, Change, Held, LogItem, Mode, NodeName, Number, Path, Place, Space, Text, Tx, Value,
+};
 use sqlite_items::Items;
 use std::test::*;
 
@@ -41,8 +43,12 @@ fn row(rt: HostRuntime) -> Result<(), Fail> {
     let values = [Value::Int(5), Value::Text(Text::new(text))];
     let bytes = encode_row(rt.alloc(), &values).ok().ok_or("no memory")?;
     assert_eq!(rt; bytes.as_slice(), ROW.as_slice());
-    let values = decode_row(rt.alloc(), &ROW).ok().ok_or("the bytes are a row")?;
-    let again = encode_row(rt.alloc(), values.as_slice()).ok().ok_or("no memory")?;
+    let values = decode_row(rt.alloc(), &ROW)
+        .ok()
+        .ok_or("the bytes are a row")?;
+    let again = encode_row(rt.alloc(), values.as_slice())
+        .ok()
+        .ok_or("no memory")?;
     assert_eq!(rt; again.as_slice(), ROW.as_slice());
     Ok(())
 }
@@ -62,7 +68,9 @@ fn one_change(rt: HostRuntime) -> Result<(), Fail> {
     let change = change(&rt)?;
     let bytes = encode_change(rt.alloc(), &change).ok().ok_or("no memory")?;
     assert_eq!(rt; bytes.as_slice(), CHANGE.as_slice());
-    let (again, used) = decode_change(rt.alloc(), &CHANGE).ok().ok_or("the bytes are a change")?;
+    let (again, used) = decode_change(rt.alloc(), &CHANGE)
+        .ok()
+        .ok_or("the bytes are a change")?;
     assert_eq!(rt; used, 27);
     assert!(rt; again.place == PLACE);
     // A row of 3 bytes is none.
@@ -91,7 +99,9 @@ fn commit(rt: HostRuntime) -> Result<(), Fail> {
 
 #[test]
 fn decision(rt: HostRuntime) -> Result<(), Fail> {
-    let nodes = Items::from_slice(rt.alloc(), &[NodeName(1), NodeName(2)]).ok().ok_or("no memory")?;
+    let nodes = Items::from_slice(rt.alloc(), &[NodeName(1), NodeName(2)])
+        .ok()
+        .ok_or("no memory")?;
     let item = LogItem::Decision {
         tx: Tx(2),
         number: Number(2),
@@ -113,7 +123,9 @@ fn prepare(rt: HostRuntime) -> Result<(), Fail> {
         path: Path::Key(PLACE),
         mode: Mode::X,
     };
-    let locks = Items::from_slice(rt.alloc(), &[space, key]).ok().ok_or("no memory")?;
+    let locks = Items::from_slice(rt.alloc(), &[space, key])
+        .ok()
+        .ok_or("no memory")?;
     let mut changes = Items::new(rt.alloc());
     changes.push(change(&rt)?).ok().ok_or("no memory")?;
     let item = LogItem::Prepare {
@@ -126,7 +138,9 @@ fn prepare(rt: HostRuntime) -> Result<(), Fail> {
     // 1 + 8 + 8 + 4 + 2 * 16 + 4 + 27 bytes of body
     assert_eq!(rt; framed.as_slice().len(), 4 + 84 + 1);
     let body = &framed.as_slice()[4..88];
-    let again = decode_record(rt.alloc(), body).ok().ok_or("the bytes are a record")?;
+    let again = decode_record(rt.alloc(), body)
+        .ok()
+        .ok_or("the bytes are a record")?;
     let framed_again = encode_record(rt.alloc(), &again).ok().ok_or("no memory")?;
     assert_eq!(rt; framed_again.as_slice(), framed.as_slice());
     Ok(())
