@@ -1,0 +1,202 @@
+-- The plan of each statement: what a session asks of ds and of the back ends.
+use Rattle.std.specs.Prelude.{ℕ, ◌+◌, ◌==◌, nat_lt, ℤ, pos, Bool, cond, nat_abs, if◌then◌else◌, List, [], ◌∷◌, ◌++◌, length, map, filter, filter_map, flat_map, find, fold, sum_by, Option, Some, None, option_map, option_and_then, option_to_list}
+use Rattle.std.specs.Option.{option_or}
+use Rattle.std.specs.Str.{bytes_eq}
+use Rattle.std.specs.Ordering.{int_cmp, is_lt}
+use Rattle.hb_types.specs.declared.change.Change.{Change}
+use Rattle.hb_types.specs.declared.change.Stored.{Stored}
+use Rattle.hb_types.specs.declared.entry.Entry.{Entry}
+use Rattle.hb_types.specs.declared.lock.Mode.{Mode}
+use Rattle.hb_types.specs.declared.lock.Mode.TheVariants as mode
+use Rattle.hb_types.specs.declared.places.Path.TheVariants as path
+use Rattle.hb_types.specs.declared.places.Place.{Place}
+use Rattle.hb_types.specs.declared.places.Space.{Space}
+use Rattle.hb_types.specs.declared.value.Value.{Value}
+use Rattle.hb_types.specs.Groups.{group_of, route, target}
+use Rattle.hb_types.specs.Places.{node_of_area}
+use Rattle.hb_types.specs.Records.{change_bytes}
+use Rattle.hb_types.specs.Rows.{row_bytes, values_in}
+use Rattle.hb_model.specs.declared.table.Table.{Table}
+use Rattle.hb_model.specs.declared.reply.Reply.{Reply}
+use Rattle.hb_model.specs.declared.reply.Reply.TheVariants as reply
+use Rattle.hb_model.specs.declared.condition.Pred.{Pred}
+use Rattle.hb_model.specs.declared.statement.Set.{Set}
+use Rattle.hb_model.specs.declared.statement.What.{What}
+use Rattle.hb_model.specs.declared.statement.What.TheVariants as what
+use Rattle.hb_model.specs.Dictionary.{table_in, entry_in, tables_space, entries_space}
+use Rattle.hb_model.specs.Does.{first_refusal, insert_refusals, select_refusals, update_refusals, most_bytes}
+use Rattle.hb_model.specs.Rows.{key_of, point, chosen, chooses, shown, assigned, assigning_refusal, first_some}
+use Rattle.hb_model.specs.Talk.{Planning, ◌>>=◌, ◌>>◌, pure, refused, refuse, lock, read, scan, scan_group, write, each}
+
+abbrev pub ds : ℕ
+ds = 1
+
+abbrev pub dictionary_space : ℕ → Space
+dictionary_space table = record { area = 0; table = table }
+
+-- ---- what rows of the dictionary tell
+
+-- a table of the dictionary, without rows, and its number
+abbrev pub Found : Type 0
+Found = ℕ × Table
+
+abbrev pub found_in : Stored → Option Found
+found_in r = option_and_then (λ values. option_map (λ t. (size r, t)) (table_in values)) (values_in r.row)
+  where
+    size : Stored → ℕ
+    size r = nat_abs r.place.key
+
+abbrev pub table_among : List Stored → List ℕ → Option Found
+table_among rows name = find (λ f. bytes_eq f.1.name name) (filter_map found_in rows)
+
+-- a group's entry, of ScanGroup or Read
+abbrev pub entry_of : Option (List ℕ) → Option Entry
+entry_of row = option_and_then entry_in (option_and_then values_in row)
+
+abbrev pub some_or : {A : Type 0} → Reply → Option A → Planning A
+some_or r None = refused r
+some_or r (Some x) = pure x
+
+-- ---- parts of plans
+
+-- S on the tables' space, and its rows
+abbrev pub names : Planning (List Stored)
+names = lock ds (path.Whole (dictionary_space tables_space)) mode.S >> scan ds (dictionary_space tables_space)
+
+-- the table of this name, or NO TABLE
+abbrev pub table_of : List ℕ → Planning Found
+table_of name = names >>= (λ rows. some_or reply.NoTable (table_among rows name))
+
+abbrev pub entry_place : ℕ → ℕ → Place
+entry_place table group = record { space = dictionary_space entries_space; group = table; key = pos group }
+
+-- a group's entry, read under a lock
+abbrev pub entry_under : Mode → ℕ → ℕ → Planning (Option Entry)
+entry_under m table group = lock ds (path.Key (entry_place table group)) m >> (read ds (entry_place table group) >>= (λ row. pure (entry_of row)))
+
+abbrev pub space_in : ℕ → ℕ → Space
+space_in area table = record { area = area; table = table }
+
+abbrev pub place_in : ℕ → ℕ → ℤ → Place
+place_in area table key = record { space = space_in area table; group = group_of key; key = key }
+
+abbrev pub stored_at : Place → Option (List ℕ) → List Stored
+stored_at place row = option_to_list (option_map (λ r. record { place = place; row = r }) row)
+
+-- the row of a key in one area, under a lock
+abbrev pub row_at : Mode → ℕ → ℤ → ℕ → Planning (List Stored)
+row_at m table key area =
+    lock (node_of_area area) (path.Key (place_in area table key)) m
+    >> (read (node_of_area area) (place_in area table key) >>= (λ row. pure (stored_at (place_in area table key) row)))
+
+-- the rows of a table in one area, under a lock
+abbrev pub rows_at : Mode → ℕ → ℕ → Planning (List Stored)
+rows_at m table area = lock (node_of_area area) (path.Whole (space_in area table)) m >> scan (node_of_area area) (space_in area table)
+
+abbrev pub all_of : {A : Type 0} → List (List A) → List A
+all_of [] = []
+all_of (x ∷ xs) = x ++ all_of xs
+
+-- the numbers of a list, ascending, each once
+abbrev pub with_number : ℕ → List ℕ → List ℕ
+with_number n [] = n ∷ []
+with_number n (m ∷ ms) = if nat_lt n m then n ∷ m ∷ ms else (if n == m then m ∷ ms else m ∷ with_number n ms)
+
+abbrev pub ascending : List ℕ → List ℕ
+ascending xs = fold (λ ns n. with_number n ns) [] xs
+
+-- the areas of the routes of entries, ascending
+abbrev pub areas_of_routes : List Stored → List ℕ
+areas_of_routes entries = ascending (flat_map (λ r. flat_map route (option_to_list (entry_of (Some r.row)))) entries)
+
+-- ---- the rows that a statement considers, as they lie
+
+-- those of one key: in each area of its route; the last area is where a new row goes
+abbrev pub point_rows : Mode → ℕ → ℤ → Planning (List Stored)
+point_rows m table key =
+    entry_under mode.S table (group_of key) >>= (λ entry. each (row_at m table key) (flat_map route (option_to_list entry)) >>= (λ rows. pure (all_of rows)))
+
+-- all of them, in the areas of any route
+abbrev pub all_rows : Mode → ℕ → Planning (List Stored)
+all_rows m table =
+    lock ds (path.Group (dictionary_space entries_space) table) mode.S
+    >> (scan_group ds (dictionary_space entries_space) table >>= (λ entries. each (rows_at m table) (areas_of_routes entries) >>= (λ rows. pure (all_of rows))))
+
+abbrev pub considered : Mode → Found → Option ℤ → Planning (List Stored)
+considered m f (Some key) = point_rows m f.0 key
+considered m f None = all_rows m f.0
+
+-- a row with its place
+abbrev pub Lying : Type 0
+Lying = Place × List Value
+
+abbrev pub lying : Stored → Option Lying
+lying r = option_map (λ values. (r.place, values)) (values_in r.row)
+
+abbrev pub by_key : Lying → List Lying → List Lying
+by_key l [] = l ∷ []
+by_key l (m ∷ ms) = cond (is_lt (int_cmp l.0.key m.0.key)) (l ∷ m ∷ ms) (m ∷ by_key l ms)
+
+abbrev pub lying_rows : List Stored → List Lying
+lying_rows rows = fold (λ ls l. by_key l ls) [] (filter_map lying rows)
+
+-- the table with the rows that were read
+abbrev pub with_lying : Table → List Lying → Table
+with_lying t ls = record t { rows = map (λ l. l.1) ls }
+
+-- ---- writes
+
+abbrev pub sizes : List Change → ℕ
+sizes changes = sum_by (λ c. length (change_bytes c)) changes
+
+-- the Writes of a statement, if its changes are not too much
+abbrev pub writes : List Change → Planning (Unit {0})
+writes changes = λ u.
+    if nat_lt most_bytes (u.bytes + sizes changes) then refused reply.TooMuch u
+    else (each (λ c. write (node_of_area c.place.space.area) c) changes >> pure tt) (record u { bytes = u.bytes + sizes changes })
+
+abbrev pub putting : Place → List Value → Change
+putting place values = record { place = place; row = Some (row_bytes values) }
+
+abbrev pub removing : Place → Change
+removing place = record { place = place; row = None }
+
+-- ---- statements on a table
+
+abbrev pub select_plan : List ℕ → What → Option Pred → Planning Reply
+select_plan name w pred =
+    table_of name >>= (λ f. refuse (first_refusal (select_refusals f.1 w pred))
+    >> (considered mode.S f (point f.1 pred) >>= (λ rows.
+    let t = with_lying f.1 (lying_rows rows) in
+    refuse (first_refusal (select_refusals t w pred)) >> pure (reply.Rows (shown t w (chosen t pred))))))
+
+abbrev pub delete_plan : List ℕ → Option Pred → Planning Reply
+delete_plan name pred =
+    table_of name >>= (λ f. refuse (first_refusal (select_refusals f.1 what.All pred))
+    >> (considered mode.X f (point f.1 pred) >>= (λ rows.
+    let t = with_lying f.1 (lying_rows rows) in
+    refuse (first_refusal (select_refusals t what.All pred))
+    >> (writes (map (λ l. removing l.0) (filter (λ l. chooses t pred l.1) (lying_rows rows))) >> pure (reply.Deleted (length (chosen t pred)))))))
+
+abbrev pub update_plan : List ℕ → List Set → Option Pred → Planning Reply
+update_plan name sets pred =
+    table_of name >>= (λ f. refuse (first_refusal (update_refusals f.1 sets pred))
+    >> (considered mode.X f (point f.1 pred) >>= (λ rows.
+    let t = with_lying f.1 (lying_rows rows) in
+    refuse (option_or (first_refusal (update_refusals t sets pred)) (first_some (assigning_refusal t sets) (chosen t pred)))
+    >> (writes (map (λ l. putting l.0 (assigned t sets l.1)) (filter (λ l. chooses t pred l.1) (lying_rows rows))) >> pure (reply.Updated (length (chosen t pred)))))))
+
+abbrev pub insert_plan : List ℕ → List Value → Planning Reply
+insert_plan name values =
+    table_of name >>= (λ f. refuse (first_refusal (insert_refusals f.1 values))
+    >> (entry_under mode.S f.0 (group_of (key_of f.1 values)) >>= (λ entry. some_or reply.NoArea entry
+    >>= (λ e. each (row_at mode.X f.0 (key_of f.1 values)) (route e) >>= (λ rows.
+    refuse (first_refusal (insert_refusals (with_lying f.1 (lying_rows (all_of rows))) values))
+    >> (writes (putting (place_in (target e) f.0 (key_of f.1 values)) values ∷ []) >> pure reply.Inserted))))))
+
+abbrev pub lock_plan : List ℕ → Bool → Planning Reply
+lock_plan name exclusive =
+    let m : Mode = if exclusive then mode.X else mode.S in
+    table_of name >>= (λ f. lock ds (path.Group (dictionary_space entries_space) f.0) mode.S
+    >> (scan_group ds (dictionary_space entries_space) f.0 >>= (λ entries.
+    each (λ area. lock (node_of_area area) (path.Whole (space_in area f.0)) m) (areas_of_routes entries) >> pure reply.Locked)))
