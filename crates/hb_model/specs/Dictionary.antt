@@ -10,6 +10,7 @@ use Rattle.hb_model.specs.declared.table.Table.{Table}
 use Rattle.hb_types.specs.declared.change.Stored.{Stored}
 use Rattle.hb_types.specs.Groups.{map_from}
 use Rattle.hb_types.specs.Rows.{row_bytes}
+use Rattle.hb_model.specs.Spots.{dictionary_space, areas_space, tables_space, members_space, entries_space}
 use Rattle.hb_model.specs.State.{State, Area, Spread, table_named}
 
 -- an area's name and its back end's number
@@ -32,19 +33,7 @@ entry_row (Moving a b) = Int (pos a) ∷ Int (pos b) ∷ []
 -- ---- the rows of ds
 
 abbrev pub at_place : ℕ → ℕ → ℕ → List Value → Stored
-at_place table group key row = record { place = record { space = record { area = 0; table = table }; group = group; key = pos key }; row = row_bytes row }
-
-abbrev pub areas_space : ℕ
-areas_space = 1
-
-abbrev pub tables_space : ℕ
-tables_space = 2
-
-abbrev pub members_space : ℕ
-members_space = 3
-
-abbrev pub entries_space : ℕ
-entries_space = 4
+at_place table group key row = record { place = record { space = dictionary_space table; group = group; key = pos key }; row = row_bytes row }
 
 abbrev pub member_rows : Spread → List Stored
 member_rows t = map_from (λ i area. at_place members_space t.number i (member_row area)) 1 t.members

@@ -1,5 +1,5 @@
 -- What one statement does to a state, and what it answers.
-use Rattle.std.specs.Prelude.{ℕ, ◌+◌, ◌*◌, nat_lt, ◌==◌, Bool, true, false, not, ◌&&◌, ◌||◌, if◌then◌else◌, List, [], ◌∷◌, ◌++◌, length, map, filter, sum_by, Option, Some, None, option_map, unwrap_or, Result, Ok, Err}
+use Rattle.std.specs.Prelude.{ℕ, ◌+◌, ◌*◌, nat_le, ◌==◌, Bool, true, false, not, ◌&&◌, ◌||◌, if◌then◌else◌, List, [], ◌∷◌, ◌++◌, length, map, filter, sum_by, Option, Some, None, option_map, unwrap_or, Result, Ok, Err}
 use Rattle.std.specs.Str.{bytes_eq}
 use Rattle.std.specs.List.{list_any, list_all, zip}
 use Rattle.std.specs.Option.{option_or}
@@ -208,9 +208,14 @@ effect back_ends s statement.Rollback = Ok (reads s reply.RolledBack)
 abbrev pub most_bytes : ℕ
 most_bytes = 1048576
 
+-- whether a statement is refused by nothing but perhaps its Lock requests, once so many bytes were written
+abbrev pub is_accepted : ℕ → Result Effect Reply → Bool
+is_accepted spent (Ok e) = nat_le (spent + e.bytes) most_bytes
+is_accepted spent (Err r) = false
+
 -- what a statement leaves and answers, and what it writes in bytes
 abbrev pub settled : State → ℕ → Result Effect Reply → Effect
-settled s spent (Ok e) = if nat_lt most_bytes (spent + e.bytes) then reads s reply.TooMuch else e
+settled s spent (Ok e) = if nat_le (spent + e.bytes) most_bytes then e else reads s reply.TooMuch
 settled s spent (Err r) = reads s r
 
 -- One statement of a transaction that has written so many bytes; `full` says that its Lock requests are too many.

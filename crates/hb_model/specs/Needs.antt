@@ -1,5 +1,5 @@
 -- The locks that a statement needs, and how many Lock requests its plan makes.
-use Rattle.std.specs.Prelude.{◌≡◌, ℕ, ◌+◌, ◌<◌, ℤ, Bool, true, if◌then◌else◌, List, [], ◌∷◌, length, map, flat_map, take, Option, Some, None, is_some, option_map, unwrap_or, ⊤, is_ok, slice_index_or}
+use Rattle.std.specs.Prelude.{◌≡◌, ℕ, ◌+◌, ◌-◌, ◌<◌, ℤ, Bool, true, if◌then◌else◌, List, [], ◌∷◌, length, map, flat_map, take, Option, Some, None, is_some, option_map, unwrap_or, ⊤, slice_index_or}
 use Rattle.hb_types.specs.declared.entry.Entry.TheVariants.{At}
 use Rattle.hb_types.specs.declared.lock.Mode.{Mode}
 use Rattle.hb_types.specs.declared.lock.Mode.TheVariants as mode
@@ -14,9 +14,8 @@ use Rattle.hb_model.specs.declared.statement.Statement.{Statement}
 use Rattle.hb_model.specs.declared.statement.Statement.TheVariants as statement
 use Rattle.hb_model.specs.declared.statement.What.TheVariants as what
 use Rattle.hb_model.specs.Define.{create_table_refusals, add_area_refusals}
-use Rattle.hb_model.specs.Dictionary.{areas_space, tables_space, members_space, entries_space}
-use Rattle.hb_model.specs.Does.{does, effect, first_refusal, insert_refusals, select_refusals, update_refusals}
-use Rattle.hb_model.specs.Plans.{ds, dictionary_space, entry_place, space_in, place_in, ascending}
+use Rattle.hb_model.specs.Does.{does, effect, is_accepted, first_refusal, insert_refusals, select_refusals, update_refusals}
+use Rattle.hb_model.specs.Spots.{ds, areas_space, tables_space, members_space, entries_space, dictionary_space, entry_place, space_in, place_in, ascending}
 use Rattle.hb_model.specs.Rows.{key_of, point}
 use Rattle.hb_types.specs.Ladders.{ladder}
 use Rattle.hb_model.specs.State.{State, Spread, table_named, spread_named, area_named}
@@ -53,6 +52,10 @@ row_locks m t (Some key) =
     at_ds (path.Key (entry_place t.number (group_of key))) mode.S
     ∷ map (λ a. in_area a (path.Key (place_in a t.number key)) m) (route_of t key)
 row_locks m t None = on_group entries_space t.number mode.S ∷ map (λ a. in_area a (path.Whole (space_in a t.number)) m) (areas_of_routes t)
+
+-- the granted Lock requests of one transaction
+abbrev pub most_locks : ℕ
+most_locks = 65536
 
 -- ---- the locks of a plan, in stages: a refusal comes between two of them
 
@@ -113,9 +116,13 @@ reached s _ = 0
 abbrev pub with_ancestors : Need → List Need
 with_ancestors n = map (λ l. record { node = n.node; path = l.path; mode = l.mode }) (ladder n.path n.mode)
 
+-- the Lock requests of a statement's plan, up to the place of its refusal, once so many were granted before
+abbrev pub locks_asked : State → ℕ → Statement → List Need
+locks_asked s granted st = take (most_locks - granted) (joined (take (reached s st) (stages s st)))
+
 -- the locks that a statement needs, with the ancestors in their intention modes
-unfoldable pub needs : State → Statement → List Need
-needs s st = flat_map with_ancestors (joined (take (reached s st) (stages s st)))
+unfoldable pub needs : State → ℕ → Statement → List Need
+needs s granted st = flat_map with_ancestors (locks_asked s granted st)
 
 -- ---- the count of Lock requests
 
@@ -123,35 +130,40 @@ needs s st = flat_map with_ancestors (joined (take (reached s st) (stages s st))
 abbrev pub locks_of : State → Statement → ℕ
 locks_of s st = length (joined (stages s st))
 
--- the granted Lock requests of one transaction
-abbrev pub most_locks : ℕ
-most_locks = 65536
-
 -- For each statement, given whether its Lock requests are said to be too many: the plans of the accepted statements
--- and of all statements, with this one, must and may pass the limit.
+-- must, and those of all statements may, pass the limit.
 abbrev pub MayBeFull : ℕ → State → ℕ → ℕ → ℕ → List (Statement × Bool) → Type 0
 MayBeFull back_ends s spent accepted all [] = ⊤
 MayBeFull back_ends s spent accepted all (st ∷ sts) =
     let e = does back_ends s spent st.1 st.0 in
     let count = locks_of s st.0 in
-    let accepted_now : ℕ = accepted + (if is_ok (effect back_ends s st.0) then count else 0) in
+    let accepted_now : ℕ = accepted + (if is_accepted spent (effect back_ends s st.0) then count else 0) in
     (most_locks < accepted_now → st.1 ≡ true) × (st.1 ≡ true → most_locks < all + count)
     × MayBeFull back_ends e.state (spent + e.bytes) (if st.1 then accepted else accepted_now) (all + count) sts
 
--- ---- what pdrbal needs
+-- ---- what pdrbal locks
 
 -- a check reads the names and all entries
-abbrev pub check_needs : ℕ → List Need
-check_needs table = flat_map with_ancestors (on_space tables_space mode.S ∷ on_group entries_space table mode.S ∷ [])
+abbrev pub check_locks : ℕ → List Need
+check_locks table = on_space tables_space mode.S ∷ on_group entries_space table mode.S ∷ []
 
 -- a batch of these keys of a group from one area to another
-abbrev pub batch_needs : ℕ → ℕ → ℕ → ℕ → List ℤ → List Need
-batch_needs table group old new keys =
-    flat_map with_ancestors
-    (at_ds (path.Key (entry_place table group)) mode.S
-    ∷ flat_map (λ k. in_area old (path.Key (place_in old table k)) mode.X ∷ in_area new (path.Key (place_in new table k)) mode.X ∷ []) keys)
+abbrev pub batch_locks : ℕ → ℕ → ℕ → ℕ → List ℤ → List Need
+batch_locks table group old new keys =
+    at_ds (path.Key (entry_place table group)) mode.S
+    ∷ flat_map (λ k. in_area old (path.Key (place_in old table k)) mode.X ∷ in_area new (path.Key (place_in new table k)) mode.X ∷ []) keys
 
 -- a finish of a group in its old area
+abbrev pub finish_locks : ℕ → ℕ → ℕ → List Need
+finish_locks table group old =
+    at_ds (path.Key (entry_place table group)) mode.X ∷ in_area old (path.Group (space_in old table) group) mode.S ∷ []
+
+-- the same with the ancestors
+abbrev pub check_needs : ℕ → List Need
+check_needs table = flat_map with_ancestors (check_locks table)
+
+abbrev pub batch_needs : ℕ → ℕ → ℕ → ℕ → List ℤ → List Need
+batch_needs table group old new keys = flat_map with_ancestors (batch_locks table group old new keys)
+
 abbrev pub finish_needs : ℕ → ℕ → ℕ → List Need
-finish_needs table group old =
-    flat_map with_ancestors (at_ds (path.Key (entry_place table group)) mode.X ∷ in_area old (path.Group (space_in old table) group) mode.S ∷ [])
+finish_needs table group old = flat_map with_ancestors (finish_locks table group old)

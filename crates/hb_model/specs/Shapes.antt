@@ -8,10 +8,16 @@ use Rattle.hb_types.specs.declared.trail.Call.{Call}
 use Rattle.hb_types.specs.declared.request.Request.TheVariants as request
 use Rattle.hb_types.specs.Places.{node_of_area}
 use Rattle.hb_types.specs.Rows.{row_bytes}
-use Rattle.hb_model.specs.Dictionary.{tables_space, entries_space, entry_row}
-use Rattle.hb_model.specs.Moves.{Hint}
-use Rattle.hb_model.specs.Plans.{ds, dictionary_space, entry_place, space_in, place_in, putting}
-use Rattle.hb_model.specs.Talk.{call}
+use Rattle.hb_model.specs.Answers.{call}
+use Rattle.hb_model.specs.Dictionary.{entry_row}
+use Rattle.hb_model.specs.Spots.{ds, tables_space, entries_space, dictionary_space, entry_place, space_in, place_in}
+
+-- a group that a check found Moving
+pub record Hint : Type 0 where
+  pub table : ℕ
+  pub group : ℕ
+  pub old : ℕ
+  pub new : ℕ
 
 -- a check: the names, and the entries of the table
 abbrev pub check_calls : Tx → ℕ → List Stored → List Stored → List Call
@@ -47,4 +53,4 @@ abbrev pub finish_calls : Tx → Hint → List Call
 finish_calls tx h =
     entry_call tx h
     ∷ call (node_of_area h.old) (request.ScanGroup tx (space_in h.old h.table) h.group) (answer.Rows [])
-    ∷ call ds (request.Write tx (putting (entry_place h.table h.group) (entry_row (At h.new)))) answer.Done ∷ []
+    ∷ call ds (request.Write tx (record { place = entry_place h.table h.group; row = Some (row_bytes (entry_row (At h.new))) })) answer.Done ∷ []

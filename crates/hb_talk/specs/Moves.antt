@@ -14,10 +14,13 @@ use Rattle.hb_types.specs.declared.request.Request.TheVariants as request
 use Rattle.hb_types.specs.Places.{node_of_area}
 use Rattle.hb_model.specs.declared.reply.Reply.{Reply}
 use Rattle.hb_model.specs.declared.reply.Reply.TheVariants as reply
-use Rattle.hb_model.specs.Dictionary.{entries_space, entry_row}
-use Rattle.hb_model.specs.Ends.{fes1, committing, rolling_back}
-use Rattle.hb_model.specs.Plans.{ds, dictionary_space, table_of, entry_of, entry_under, entry_place, space_in, place_in, putting}
-use Rattle.hb_model.specs.Talk.{Talk, says, asks, going_on, Planning, ◌>>=◌, ◌>>◌, pure, lock, read, scan_group, write, each, Use, mgr, refusal_of}
+use Rattle.hb_model.specs.Dictionary.{entry_row}
+use Rattle.hb_model.specs.Shapes.{Hint}
+use Rattle.hb_model.specs.Spots.{ds, dictionary_space, entries_space, entry_place, space_in, place_in}
+use Rattle.hb_model.specs.Told.{entry_of}
+use Rattle.hb_talk.specs.Ends.{fes1, committing, rolling_back}
+use Rattle.hb_talk.specs.Plans.{table_of, entry_under, putting}
+use Rattle.hb_talk.specs.Talk.{Talk, says, asks, going_on, Planning, ◌>>=◌, ◌>>◌, pure, lock, read, scan_group, write, each, Use, mgr, refusal_of}
 
 -- a pdrbal line of a session: its table, keys per batch, and turns
 pub record Mover : Type 0 where
@@ -26,13 +29,6 @@ pub record Mover : Type 0 where
   pub table : List ℕ
   pub rows : ℕ
   pub turns : ℕ
-
--- a group that a check found Moving
-pub record Hint : Type 0 where
-  pub table : ℕ
-  pub group : ℕ
-  pub old : ℕ
-  pub new : ℕ
 
 -- ---- a transaction's beginning
 

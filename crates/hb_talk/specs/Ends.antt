@@ -9,8 +9,8 @@ use Rattle.hb_types.specs.declared.request.Request.TheVariants as request
 use Rattle.hb_types.specs.declared.request.Vote.{Vote}
 use Rattle.hb_model.specs.declared.reply.Reply.{Reply}
 use Rattle.hb_model.specs.declared.reply.Reply.TheVariants as reply
-use Rattle.hb_model.specs.Plans.{ascending}
-use Rattle.hb_model.specs.Talk.{Talk, says, asks, Use, the_tx, mgr, refusal_of}
+use Rattle.hb_model.specs.Spots.{ascending}
+use Rattle.hb_talk.specs.Talk.{Talk, says, asks, Use, the_tx, mgr, refusal_of}
 
 abbrev pub fes1 : ℕ
 fes1 = 0

@@ -23,35 +23,11 @@ use Rattle.hb_model.specs.declared.condition.Pred.{Pred}
 use Rattle.hb_model.specs.declared.statement.Set.{Set}
 use Rattle.hb_model.specs.declared.statement.What.{What}
 use Rattle.hb_model.specs.declared.statement.What.TheVariants as what
-use Rattle.hb_model.specs.Dictionary.{table_in, entry_in, tables_space, entries_space}
+use Rattle.hb_model.specs.Spots.{ds, tables_space, entries_space, dictionary_space, entry_place, space_in, place_in, ascending}
+use Rattle.hb_model.specs.Told.{Found, found_in, table_among, entry_of}
 use Rattle.hb_model.specs.Does.{first_refusal, insert_refusals, select_refusals, update_refusals, most_bytes}
 use Rattle.hb_model.specs.Rows.{key_of, point, chosen, chooses, shown, assigned, assigning_refusal, first_some}
-use Rattle.hb_model.specs.Talk.{Planning, ◌>>=◌, ◌>>◌, pure, refused, refuse, lock, read, scan, scan_group, write, each}
-
-abbrev pub ds : ℕ
-ds = 1
-
-abbrev pub dictionary_space : ℕ → Space
-dictionary_space table = record { area = 0; table = table }
-
--- ---- what rows of the dictionary tell
-
--- a table of the dictionary, without rows, and its number
-abbrev pub Found : Type 0
-Found = ℕ × Table
-
-abbrev pub found_in : Stored → Option Found
-found_in r = option_and_then (λ values. option_map (λ t. (size r, t)) (table_in values)) (values_in r.row)
-  where
-    size : Stored → ℕ
-    size r = nat_abs r.place.key
-
-abbrev pub table_among : List Stored → List ℕ → Option Found
-table_among rows name = find (λ f. bytes_eq f.1.name name) (filter_map found_in rows)
-
--- a group's entry, of ScanGroup or Read
-abbrev pub entry_of : Option (List ℕ) → Option Entry
-entry_of row = option_and_then entry_in (option_and_then values_in row)
+use Rattle.hb_talk.specs.Talk.{Planning, ◌>>=◌, ◌>>◌, pure, refused, refuse, lock, read, scan, scan_group, write, each}
 
 abbrev pub some_or : {A : Type 0} → Reply → Option A → Planning A
 some_or r None = refused r
@@ -67,18 +43,9 @@ names = lock ds (path.Whole (dictionary_space tables_space)) mode.S >> scan ds (
 abbrev pub table_of : List ℕ → Planning Found
 table_of name = names >>= (λ rows. some_or reply.NoTable (table_among rows name))
 
-abbrev pub entry_place : ℕ → ℕ → Place
-entry_place table group = record { space = dictionary_space entries_space; group = table; key = pos group }
-
 -- a group's entry, read under a lock
 abbrev pub entry_under : Mode → ℕ → ℕ → Planning (Option Entry)
 entry_under m table group = lock ds (path.Key (entry_place table group)) m >> (read ds (entry_place table group) >>= (λ row. pure (entry_of row)))
-
-abbrev pub space_in : ℕ → ℕ → Space
-space_in area table = record { area = area; table = table }
-
-abbrev pub place_in : ℕ → ℕ → ℤ → Place
-place_in area table key = record { space = space_in area table; group = group_of key; key = key }
 
 abbrev pub stored_at : Place → Option (List ℕ) → List Stored
 stored_at place row = option_to_list (option_map (λ r. record { place = place; row = r }) row)
@@ -96,14 +63,6 @@ rows_at m table area = lock (node_of_area area) (path.Whole (space_in area table
 abbrev pub all_of : {A : Type 0} → List (List A) → List A
 all_of [] = []
 all_of (x ∷ xs) = x ++ all_of xs
-
--- the numbers of a list, ascending, each once
-abbrev pub with_number : ℕ → List ℕ → List ℕ
-with_number n [] = n ∷ []
-with_number n (m ∷ ms) = if nat_lt n m then n ∷ m ∷ ms else (if n == m then m ∷ ms else m ∷ with_number n ms)
-
-abbrev pub ascending : List ℕ → List ℕ
-ascending xs = fold (λ ns n. with_number n ns) [] xs
 
 -- the areas of the routes of entries, ascending
 abbrev pub areas_of_routes : List Stored → List ℕ

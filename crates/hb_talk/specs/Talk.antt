@@ -15,6 +15,8 @@ use Rattle.hb_types.specs.declared.trail.Call.{Call}
 use Rattle.hb_types.specs.declared.answer.Edge.{Edge}
 use Rattle.hb_types.specs.declared.request.Request.{Request}
 use Rattle.hb_types.specs.declared.request.Request.TheVariants as request
+use Rattle.hb_model.specs.Answers.{call}
+use Rattle.hb_model.specs.Needs.{most_locks}
 use Rattle.hb_model.specs.declared.reply.Reply.{Reply}
 use Rattle.hb_model.specs.declared.reply.Reply.TheVariants as reply
 
@@ -28,9 +30,6 @@ going_on f (says a) = f a
 going_on f (asks node q k) = asks node q (λ a. going_on f (k a))
 
 -- ---- what a list of calls follows
-
-abbrev pub call : ℕ → Request → Answer → Call
-call node q a = record { node = record { 0 = node }; request = q; answer = a }
 
 abbrev pub mgr : ℕ
 mgr = 10
@@ -142,10 +141,6 @@ abbrev pub enlisted : ℕ → Planning (Unit {0})
 enlisted node = λ u.
     if list_any (λ n. n == node) u.used then says (Ok tt, u)
     else expect done node (request.Enlist (the_tx u)) (record u { used = node ∷ u.used })
-
--- the granted Lock requests of one transaction
-abbrev pub most_locks : ℕ
-most_locks = 65536
 
 abbrev pub lock : ℕ → Path → Mode → Planning (Unit {0})
 lock node p m = enlisted node >>

@@ -15,12 +15,14 @@ use Rattle.hb_model.specs.declared.reply.Reply.TheVariants as reply
 use Rattle.hb_model.specs.declared.statement.Statement.{Statement}
 use Rattle.hb_model.specs.declared.statement.Statement.TheVariants as statement
 use Rattle.hb_model.specs.Define.{new_area, new_table, new_spread, create_area_refusals, create_table_refusals, add_area_refusals}
-use Rattle.hb_model.specs.Dictionary.{area_in, member_in, area_row, table_row, member_row, at_place, areas_space, tables_space, members_space, entries_space, member_rows, entry_rows}
+use Rattle.hb_model.specs.Dictionary.{area_in, member_in, area_row, table_row, member_row, at_place, member_rows, entry_rows}
 use Rattle.hb_model.specs.Does.{first_refusal}
 use Rattle.hb_model.specs.Names.{back_end_named}
-use Rattle.hb_model.specs.Plans.{ds, dictionary_space, found_in, Found, table_of, writes, entry_of, some_or, select_plan, delete_plan, update_plan, insert_plan, lock_plan}
+use Rattle.hb_model.specs.Spots.{ds, dictionary_space, areas_space, tables_space, members_space, entries_space}
+use Rattle.hb_model.specs.Told.{Found, found_in, entry_of}
+use Rattle.hb_talk.specs.Plans.{table_of, writes, some_or, select_plan, delete_plan, update_plan, insert_plan, lock_plan}
 use Rattle.hb_model.specs.State.{State, Area, Spread, nothing, area_named}
-use Rattle.hb_model.specs.Talk.{Planning, ◌>>=◌, ◌>>◌, pure, refuse, lock, scan, scan_group}
+use Rattle.hb_talk.specs.Talk.{Planning, ◌>>=◌, ◌>>◌, pure, refuse, lock, scan, scan_group}
 
 -- ---- what the rows of ds tell
 
