@@ -23,7 +23,7 @@ use Rattle.hb_model.specs.Plans.{place_in}
 use Rattle.hb_model.specs.Rows.{assigned}
 use Rattle.hb_model.specs.Sessions.{rolls_back}
 use Rattle.hb_model.specs.State.{State, Spread, spread_named}
-use Rattle.hb_model.specs.System.{Family}
+use Rattle.hb_model.specs.Families.{Family}
 use Rattle.hb_disks.specs.Images.{Logs, decided, family}
 use Rattle.hb_disks.specs.Says.{Decided}
 use Rattle.hb_disks.specs.StandsFor.{back_ends, StateAfter}
