@@ -4,10 +4,11 @@ use Rattle.hb_types.specs.declared.change.LogItem.{LogItem}
 use Rattle.std.specs.Prelude.{slice_get, filter}
 use Rattle.hb_types.specs.declared.trail.Call.{Call}
 use Rattle.hb_types.specs.Lists.{Each}
-use Rattle.hb_model.specs.Faithful.{Item}
+use Rattle.hb_model.specs.Items.{Item}
 use Rattle.hb_model.specs.State.{nothing}
 use Rattle.hb_disks.specs.Disks.{written}
-use Rattle.hb_disks.proofs.Empty.{empty_images, empty_logs, empty_stands_with}
+use Rattle.hb_disks.specs.Logless.{empty_images, empty_logs}
+use Rattle.hb_disks.proofs.Empty.{empty_stands_with}
 use Rattle.hb_law.specs.Composition.{World, Together, NodesRan, CoordinatorRan, ServerRan, lists_of}
 use Rattle.hb_law.specs.Callers.{Obeys}
 use Rattle.hb_law.specs.Histories.{Labelled, Merged, Trails, stands, entries_of, calls_at}
@@ -79,7 +80,7 @@ idle_together =
       start = nothing;
       stood = empty_stands_with;
       read = empty_stands_with.read;
-      points = empty_stands_with.rule6;
+      points = empty_stands_with.points;
       nodes = idle_nodes;
       merged = idle_merged;
       obey = λ caller list h. subst (Obeys caller) (sym (no_calls (caller + 1) list h)) tt;

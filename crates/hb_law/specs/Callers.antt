@@ -8,6 +8,7 @@ use Rattle.hb_types.specs.declared.request.Request.{Request}
 use Rattle.hb_types.specs.declared.request.Request.TheVariants as request
 use Rattle.hb_types.specs.declared.request.Vote.{Vote}
 use Rattle.hb_types.specs.Lists.{Each, Has}
+use Rattle.hb_model.specs.Answers.{HasAsked, is_decide, is_undoing}
 
 -- ---- the transaction of a caller
 
@@ -50,16 +51,6 @@ abbrev pub is_prepare : Request → Bool
 is_prepare (request.Prepare tx) = true
 is_prepare _ = false
 
-abbrev pub is_decide : Request → Bool
-is_decide (request.Decide tx votes) = true
-is_decide _ = false
-
--- an Abort or a Rollback
-abbrev pub is_undoing : Request → Bool
-is_undoing (request.Abort tx) = true
-is_undoing (request.Rollback tx) = true
-is_undoing _ = false
-
 -- a decision that stands or may stand
 abbrev pub is_settled : Answer → Bool
 is_settled (answer.Decided n) = true
@@ -71,9 +62,6 @@ Asks test c = IsTrue (test c.request)
 
 abbrev pub AsksAt : (Request → Bool) → ℕ → Call → Type 0
 AsksAt test node c = (c.node.0 ≡ node) × IsTrue (test c.request)
-
-abbrev pub HasAsked : (Request → Bool) → List Call → Type 0
-HasAsked test calls = Has (Asks test) calls
 
 abbrev pub HasAskedAt : (Request → Bool) → ℕ → List Call → Type 0
 HasAskedAt test node calls = Has (AsksAt test node) calls

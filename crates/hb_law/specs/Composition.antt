@@ -10,7 +10,7 @@ use Rattle.std.specs.List.{AllZip}
 use Rattle.hb_types.specs.Lists.{Each, Has, IsIn}
 use Rattle.hb_model.specs.declared.reply.Reply.{Reply}
 use Rattle.hb_model.specs.declared.reply.Reply.TheVariants as reply
-use Rattle.hb_model.specs.Faithful.{Item, turn, calls_of}
+use Rattle.hb_model.specs.Items.{Item, turn, calls_of}
 use Rattle.hb_model.specs.State.{State}
 use Rattle.hb_disks.specs.Balanced.{Balanced}
 use Rattle.hb_disks.specs.Images.{Images, Logs, ReadAs, family_below}

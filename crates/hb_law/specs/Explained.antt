@@ -17,11 +17,12 @@ use Rattle.hb_model.specs.declared.statement.Statement.{Statement}
 use Rattle.hb_model.specs.declared.statement.Statement.TheVariants as statement
 use Rattle.hb_model.specs.Alone.{alone}
 use Rattle.hb_model.specs.Answers.{rows_of}
-use Rattle.hb_model.specs.Faithful.{Item, Doing, sql, turn, IsSelection, shows_rows}
+use Rattle.hb_model.specs.Items.{Item, Doing, sql, turn}
+use Rattle.hb_model.specs.Outside.{says_undone}
+use Rattle.hb_model.specs.Sources.{IsSelection, shows_rows}
 use Rattle.hb_model.specs.Needs.{MayBeFull}
-use Rattle.hb_model.specs.Plans.{place_in}
+use Rattle.hb_model.specs.Spots.{place_in}
 use Rattle.hb_model.specs.Rows.{assigned}
-use Rattle.hb_model.specs.Sessions.{rolls_back}
 use Rattle.hb_model.specs.State.{State, Spread, spread_named}
 use Rattle.hb_model.specs.Families.{Family}
 use Rattle.hb_disks.specs.Images.{Logs, decided, family}
@@ -64,15 +65,10 @@ pub record AreFurther (base logs : Logs) (txns : List Txn) (further : List Decid
 
 -- ---- 2: what is shown of ends
 
-abbrev pub ends_otherwise : Reply → Bool
-ends_otherwise reply.RolledBack = true
-ends_otherwise reply.RolledBackEnd = true
-ends_otherwise r = rolls_back r
-
 -- a reply to an item of a transaction is right about its end
 abbrev pub EndsAs : Logs → ℕ → Reply → Type 0
 EndsAs logs tx (reply.Committed number) = IsDecidedAs logs tx number.0
-EndsAs logs tx r = (IsTrue (ends_otherwise r) → IsUndecided logs tx) × MatchOption (moving_number r) ⊤ (IsDecidedAs logs tx)
+EndsAs logs tx r = (IsTrue (says_undone r) → IsUndecided logs tx) × MatchOption (moving_number r) ⊤ (IsDecidedAs logs tx)
 
 abbrev pub ItemEnds : Logs → ℕ → Item → Type 0
 ItemEnds logs tx i = Each (EndsAs logs tx) i.lines

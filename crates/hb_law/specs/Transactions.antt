@@ -12,11 +12,14 @@ use Rattle.hb_types.specs.Lists.{Each, Has}
 use Rattle.hb_model.specs.declared.reply.Reply.{Reply}
 use Rattle.hb_model.specs.declared.statement.Statement.{Statement}
 use Rattle.hb_model.specs.declared.statement.Statement.TheVariants as statement
-use Rattle.hb_model.specs.Answers.{of_rows}
-use Rattle.hb_model.specs.Faithful.{Item, Doing, sql, turn, tending, calls_of, Spent, spending, Faithful}
-use Rattle.hb_model.specs.Moves.{Hint}
-use Rattle.hb_model.specs.Shapes.{check_calls, batch_calls, finish_calls, Keyed}
-use Rattle.hb_law.specs.Callers.{HasAsked, is_decide, begun_count}
+use Rattle.hb_model.specs.Answers.{of_rows, HasAsked, is_decide, is_undoing}
+use Rattle.hb_model.specs.Faithful.{Faithful}
+use Rattle.hb_model.specs.Items.{Item, Doing, sql, turn, tending, calls_of, Spent, spending, nothing_spent}
+use Rattle.hb_model.specs.Locking.{LocksAmong, LocksByTable}
+use Rattle.hb_model.specs.Needs.{check_locks, batch_locks, finish_locks}
+use Rattle.hb_model.specs.Sources.{WriteMade}
+use Rattle.hb_model.specs.Shapes.{Hint, check_calls, batch_calls, finish_calls, Keyed}
+use Rattle.hb_law.specs.Callers.{begun_count}
 
 -- a transaction that was begun: its owner, and the items of its caller's list that are its own
 pub record Txn : Type 0 where
