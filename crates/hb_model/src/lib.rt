@@ -3,6 +3,7 @@
 
 mod condition;
 mod expression;
+mod laws;
 mod line;
 mod reply;
 mod script;
@@ -11,6 +12,7 @@ mod table;
 
 pub use condition::{Op, Pred};
 pub use expression::Expr;
+pub use laws::names_stay;
 pub use line::{Line, Work};
 pub use reply::Reply;
 pub use script::Item;
