@@ -1,2 +1,5 @@
 pub mod Finding
 pub mod Keeping
+pub mod Samples
+pub mod Defining
+pub mod Storing
