@@ -3,3 +3,4 @@ pub mod Keeping
 pub mod Samples
 pub mod Defining
 pub mod Storing
+pub mod Transaction

@@ -1,6 +1,6 @@
 -- INSERT, SELECT, UPDATE, DELETE and LOCK TABLE, with each refusal, computed.
 use Rattle.std.proofs.Common.{◌≡◌, ℕ, pos, negsuc, true, false, refl, ap, ◌∙◌, map, length, List, [], ◌∷◌, Some, None}
-use Rattle.std.specs.Prelude.{codes, Option, sum_by, if◌then◌else◌}
+use Rattle.std.specs.Prelude.{codes, Option, sum_by, filter, not, ◌*◌, if◌then◌else◌}
 use Rattle.std.specs.Option.{option_or}
 use Rattle.hb_types.specs.declared.entry.Entry.TheVariants.{At}
 use Rattle.hb_types.specs.declared.value.Value.{Value}
@@ -20,8 +20,8 @@ use Rattle.hb_model.specs.declared.statement.What.TheVariants as what
 use Rattle.hb_model.specs.declared.reply.Reply.{Reply}
 use Rattle.hb_model.specs.declared.statement.What.{What}
 use Rattle.hb_model.specs.declared.table.Table.{Table}
-use Rattle.hb_model.specs.Does.{does, effect, settled, unless, reads, first_refusal, select_refusals, update_refusals, with_rows, change_size}
-use Rattle.hb_model.specs.Kinds.{letters, kind_of, is_typed, names_in, names_in_pred}
+use Rattle.hb_model.specs.Does.{does, effect, settled, unless, reads, first_refusal, select_refusals, update_refusals, with_rows, change_size, removal_size}
+use Rattle.hb_model.specs.Kinds.{letters, number, kind_of, is_typed, names_in, names_in_pred}
 use Rattle.hb_model.specs.Rows.{point_key, chosen, chooses, shown, assigned, assigning_refusal, first_some}
 use Rattle.hb_model.specs.Values.{value_of, holds_at}
 use Rattle.hb_model.proofs.Samples.{columns, sample, holding, row, reply_to, replies_to}
@@ -154,30 +154,65 @@ value-too-great : value_of columns (row 5 (codes "e")) too_great ≡ None
 unfolding value_of
 value-too-great = rw (fold_out-Expr, outs-Add, fold_out-Expr, outs-Name, fold_out-Expr, outs-Int) refl
 
-refused-update : (sets : List Set) (r : Reply) → option_or (first_refusal (update_refusals the_table sets None)) (first_some (assigning_refusal the_table sets) (chosen the_table None)) ≡ Some r
-    → reply_to sample (statement.Update (codes "T") sets None) ≡ r
+refused-update : (sets : List Set) (p : Option Pred) (r : Reply) → option_or (first_refusal (update_refusals the_table sets p)) (first_some (assigning_refusal the_table sets) (chosen the_table p)) ≡ Some r
+    → reply_to sample (statement.Update (codes "T") sets p) ≡ r
 unfolding does effect
-refused-update sets r e =
+refused-update sets p r e =
     ap (λ o. (settled sample 0 (unless o (record {
-      state = with_rows sample the_table (map (λ row. if chooses the_table None row then assigned the_table sets row else row) the_table.rows);
-      reply = reply.Updated (length (chosen the_table None));
-      bytes = sum_by (λ row. change_size (assigned the_table sets row)) (chosen the_table None);
+      state = with_rows sample the_table (map (λ row. if chooses the_table p row then assigned the_table sets row else row) the_table.rows);
+      reply = reply.Updated (length (chosen the_table p));
+      bytes = sum_by (λ row. change_size (assigned the_table sets row)) (chosen the_table p);
     }))).reply) e
 
 update-no-column : reply_to sample (statement.Update (codes "T") (setting (codes "Q") (codes "x") ∷ []) None) ≡ reply.NoColumn
-update-no-column = refused-update (setting (codes "Q") (codes "x") ∷ []) reply.NoColumn refl
+update-no-column = refused-update (setting (codes "Q") (codes "x") ∷ []) None reply.NoColumn refl
 
 update-twice : reply_to sample (statement.Update (codes "T") (setting (codes "V") (codes "x") ∷ setting (codes "V") (codes "y") ∷ []) None) ≡ reply.ColumnTwice
-update-twice = refused-update (setting (codes "V") (codes "x") ∷ setting (codes "V") (codes "y") ∷ []) reply.ColumnTwice (rw (names-text (codes "x"), names-text (codes "y")) refl)
+update-twice = refused-update (setting (codes "V") (codes "x") ∷ setting (codes "V") (codes "y") ∷ []) None reply.ColumnTwice (rw (names-text (codes "x"), names-text (codes "y")) refl)
 
 update-key : reply_to sample (statement.Update (codes "T") (setting (codes "K") (codes "x") ∷ []) None) ≡ reply.KeyFixed
-update-key = refused-update (setting (codes "K") (codes "x") ∷ []) reply.KeyFixed (rw (names-text (codes "x")) refl)
+update-key = refused-update (setting (codes "K") (codes "x") ∷ []) None reply.KeyFixed (rw (names-text (codes "x")) refl)
 
 update-too-long : reply_to sample (statement.Update (codes "T") (setting (codes "V") (codes "long") ∷ []) None) ≡ reply.TooLong
 update-too-long =
-    refused-update (setting (codes "V") (codes "long") ∷ []) reply.TooLong
+    refused-update (setting (codes "V") (codes "long") ∷ []) None reply.TooLong
     (rw (names-text (codes "long"), kind-text (codes "long"), value-text (row 5 (codes "e")) (codes "long")) refl)
 
 update-no-table : reply_to sample (statement.Update (codes "U") (setting (codes "V") (codes "x") ∷ []) None) ≡ reply.NoTable
 unfolding does effect
 update-no-table = refl
+
+names-great : names_in too_great ≡ codes "K" ∷ []
+unfolding names_in
+names-great = rw (fold_out-Expr, outs-Add, fold_out-Expr, outs-Name, fold_out-Expr, outs-Int) refl
+
+kind-great : kind_of columns too_great ≡ Some number
+unfolding kind_of
+kind-great = rw (fold_out-Expr, outs-Add, fold_out-Expr, outs-Name, fold_out-Expr, outs-Int) refl
+
+update-wrong-type : reply_to sample (statement.Update (codes "T") (record { name = codes "V"; value = too_great } ∷ []) None) ≡ reply.WrongType
+update-wrong-type = refused-update (record { name = codes "V"; value = too_great } ∷ []) None reply.WrongType (rw (names-great, kind-great) refl)
+
+update-overflow : reply_to sample (statement.Update (codes "T") (setting (codes "V") (codes "x") ∷ []) (Some (key_is 2147483648))) ≡ reply.Overflow
+update-overflow =
+    refused-update (setting (codes "V") (codes "x") ∷ []) (Some (key_is 2147483648)) reply.Overflow
+    (rw (names-text (codes "x"), names-key 2147483648, kind-text (codes "x"), typed-key 2147483648, point-key 2147483648) refl)
+
+-- ---- DELETE
+
+refused-delete : (p : Option Pred) (r : Reply) → first_refusal (select_refusals the_table what.All p) ≡ Some r
+    → reply_to sample (statement.Delete (codes "T") p) ≡ r
+unfolding does effect
+refused-delete p r e =
+    ap (λ o. (settled sample 0 (unless o (record {
+      state = with_rows sample the_table (filter (λ row. not (chooses the_table p row)) the_table.rows);
+      reply = reply.Deleted (length (chosen the_table p));
+      bytes = removal_size * length (chosen the_table p);
+    }))).reply) e
+
+delete-overflow : reply_to sample (statement.Delete (codes "T") (Some (key_is 2147483648))) ≡ reply.Overflow
+delete-overflow = refused-delete (Some (key_is 2147483648)) reply.Overflow (rw (names-key 2147483648, typed-key 2147483648, point-key 2147483648) refl)
+
+delete-no-table : reply_to sample (statement.Delete (codes "U") None) ≡ reply.NoTable
+unfolding does effect
+delete-no-table = refl

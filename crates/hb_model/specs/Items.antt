@@ -11,7 +11,8 @@ pub data Doing : Type 0 where
   turn : List ℕ → ℕ → Doing
   tending : Doing
 
--- A piece of a caller's work: the place of the work in its script, what it does, the calls it made, and the lines it showed.
+-- A piece of a caller's work: the place of the work in its script, what it does, the calls it made, and the replies it showed:
+-- those that end a statement, and the MOVED, COMPLETE and SUSPENDED of pdrbal, but no GIVEN, WAITS or STEPPED.
 pub record Item : Type 0 where
   pub place : ℕ
   pub doing : Doing
