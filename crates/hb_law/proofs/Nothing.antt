@@ -1,5 +1,5 @@
 -- The premises of the law of composition hold of a run in which nothing was done.
-use Rattle.std.proofs.Common.{◌≡◌, ℕ, zero, suc, ◌+◌, List, [], ◌∷◌, Some, refl, ◌∙◌, ap, subst, sym, unwrap_or}
+use Rattle.std.proofs.Common.{◌≡◌, ℕ, zero, suc, ◌+◌, List, [], ◌∷◌, Some, refl, ◌∙◌, ap, subst, sym, unwrap_or, lit≤}
 use Rattle.hb_types.specs.declared.change.LogItem.{LogItem}
 use Rattle.std.specs.Prelude.{slice_get, filter}
 use Rattle.hb_types.specs.declared.trail.Call.{Call}
@@ -68,7 +68,7 @@ idle_nodes =
     }
 
 idle_merged : Merged no_trails (lists_of idle)
-idle_merged = record { same = λ node caller trail list t l. same node caller trail list (no_trail node trail t) (no_calls caller list l); callers = (tt, (tt, (tt, tt))) }
+idle_merged = record { same = λ node caller trail list t l. same node caller trail list (no_trail node trail t) (no_calls caller list l); callers = (tt, (tt, (tt, tt))); here = (tt, (tt, tt)) }
   where
     same : (node caller : ℕ) (trail : List Labelled) (list : List Call) → trail ≡ [] → list ≡ []
         → filter stands (entries_of caller trail) ≡ filter stands (calls_at node list)
@@ -85,7 +85,9 @@ idle_together =
       merged = idle_merged;
       obey = λ caller list h. subst (Obeys caller) (sym (no_calls (caller + 1) list h)) tt;
       operator = λ list h. subst (Obeys 2) (sym (no_calls 0 list h)) tt;
+      back_ends_few = (lit≤ tt, lit≤ tt);
       txns = record { each = tt; all = (tt, (tt, tt)) };
       right = tt;
+      outcomes = (tt, (tt, tt));
       shown = record { each_item = λ caller list h. subst (Each _) (sym (no_items caller list h)) tt; each_line = tt };
     }

@@ -22,7 +22,7 @@ use Rattle.hb_law.specs.Coordinator as coordinator
 use Rattle.hb_law.specs.Callers.{Obeys}
 use Rattle.hb_law.specs.Explained.{Explained, ExplainedApart}
 use Rattle.hb_law.specs.Histories.{Trails, Labelled, Event, calls, Shown, asked_of, Merged, History, lines_in}
-use Rattle.hb_law.specs.Transactions.{Txn, AreTxns, IsRightTxn}
+use Rattle.hb_law.specs.Transactions.{Txn, AreTxns, IsRightTxn, OutcomesTold}
 use Rattle.hb_disks.specs.Says.{Decided}
 
 -- what is told of a run: the disks at its start and at one moment, the trails, and the callers' lists with their transactions and lines
@@ -89,8 +89,10 @@ pub record Together (format : Format) (w : World) : Type 0 where
   pub merged : Merged w.trails (lists_of w)
   pub obey : AllObey (lists_of w)
   pub operator : OperatorObeys (lists_of w)
+  pub back_ends_few : (2 ≤ length w.base.servers) × (length w.base.servers ≤ 9)
   pub txns : AreTxns w.lists w.txns
   pub right : Each (IsRightTxn (back_ends w.base)) w.txns
+  pub outcomes : Each (OutcomesTold w.txns) w.lists
   pub shown : ShowsItems w.lists w.lines
 
 -- ---- the law

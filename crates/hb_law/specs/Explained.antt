@@ -29,7 +29,7 @@ use Rattle.hb_disks.specs.Images.{Logs, decided, family}
 use Rattle.hb_disks.specs.Says.{Decided}
 use Rattle.hb_disks.specs.StandsFor.{back_ends, StateAfter}
 use Rattle.hb_law.specs.Histories.{Event, gives, shows, Shown}
-use Rattle.hb_law.specs.Transactions.{Txn, caller_of, IsOfStatements, reply_in}
+use Rattle.hb_law.specs.Transactions.{Txn, caller_of, IsOfStatements, OwnersApart, reply_in}
 
 -- ---- words
 
@@ -56,22 +56,32 @@ number_shown (reply.Committed number) = Some number.0
 number_shown (reply.ToldCommitted o number) = Some number.0
 number_shown r = moving_number r
 
--- ---- 1: decisions
+-- ---- decided
 
 -- the decisions begin with those of the base, and each further one is of a transaction that was begun
 pub record AreFurther (base logs : Logs) (txns : List Txn) (further : List Decided) : Type 0 where
   pub begins : decided logs ≡ decided base ++ further
   pub owned : Each (λ d. Has (λ t. t.tx ≡ d.tx) txns) further
+  pub owners_apart : OwnersApart txns
 
--- ---- 2: what is shown of ends
+-- ---- shown
 
--- a reply to an item of a transaction is right about its end
-abbrev pub EndsAs : Logs → ℕ → Reply → Type 0
-EndsAs logs tx (reply.Committed number) = IsDecidedAs logs tx number.0
-EndsAs logs tx r = (IsTrue (says_undone r) → IsUndecided logs tx) × MatchOption (moving_number r) ⊤ (IsDecidedAs logs tx)
+-- a reply to a statement, and a line of a turn, is right about the end of its transaction
+abbrev pub StatementEnds : Logs → ℕ → Reply → Type 0
+StatementEnds logs tx (reply.Committed number) = IsDecidedAs logs tx number.0
+StatementEnds logs tx r = IsTrue (says_undone r) → IsUndecided logs tx
+
+-- a turn that ends with any other line was rolled back
+abbrev pub TurnEnds : Logs → ℕ → Reply → Type 0
+TurnEnds logs tx (reply.OutcomeUnknown o) = ⊤
+TurnEnds logs tx r = MatchOption (moving_number r) (IsUndecided logs tx) (IsDecidedAs logs tx)
+
+abbrev pub EndsAs : Logs → ℕ → Doing → Reply → Type 0
+EndsAs logs tx (turn table most) r = TurnEnds logs tx r
+EndsAs logs tx d r = StatementEnds logs tx r
 
 abbrev pub ItemEnds : Logs → ℕ → Item → Type 0
-ItemEnds logs tx i = Each (EndsAs logs tx) i.lines
+ItemEnds logs tx i = Each (EndsAs logs tx i.doing) i.lines
 
 -- what a line without a session tells of an owner is so
 abbrev pub ToldRightly : Logs → List Txn → Reply → Type 0
@@ -96,7 +106,7 @@ pub record ShowsEnds (logs : Logs) (txns : List Txn) (lines : List Shown) (furth
   pub told : Each (λ l. ToldRightly logs txns l.reply) lines
   pub open_or_shown : Each (λ d. Each (λ t. t.tx ≡ d.tx → MatchOption (last_item t.items) ⊥ (λ i. EndsOpenly d.number i.doing i.lines)) txns) further
 
--- ---- 3: one after another by number; 4 and 5: what pdrbal tells
+-- ---- run alone by number; complete and moved: what pdrbal tells
 
 abbrev pub statement_in : Doing → Option Statement
 statement_in (sql st) = Some st
@@ -190,7 +200,7 @@ pub record IsStep (logs : Logs) (txns : List Txn) (ds : List Decided) (d : Decid
 abbrev pub EachStep : Logs → List Txn → List Decided → List Decided → Type 0
 EachStep logs txns ds0 further = EachBehind (λ front d. IsStep logs txns (ds0 ++ front) d) [] further
 
--- ---- 6: order in time, in one history
+-- ---- ordered: in one history
 
 abbrev pub IsLineOf : ℕ → ℕ → Event → Type 0
 IsLineOf caller place (shows c p r) = (c ≡ caller) × (p ≡ place)
@@ -224,7 +234,7 @@ InOrder logs txns h =
     → h ≡ a ++ shown ∷ b ++ e ∷ c → Shows m shown → IsIn t txns → t.items ≡ i ∷ more → IsDecidedAs logs t.tx n
     → BeginsAt (a ++ shown ∷ b) e c (caller_of t.owner) i.place n i.doing → m < n
 
--- ---- 7: nothing uncommitted of another
+-- ---- clean: nothing uncommitted of another
 
 -- a front of the decisions that has those of the base
 abbrev pub IsMoment : Logs → Logs → List Decided → Type 0
@@ -255,14 +265,14 @@ ShowsClean base logs t = EachBehind (λ own i. Each (RowsClean base logs own i.d
 
 -- the points that need no order in time
 pub record ExplainedApart (base logs : Logs) (txns : List Txn) (lines : List Shown) (further : List Decided) : Type 0 where
-  pub point1 : AreFurther base logs txns further
-  pub point2 : ShowsEnds logs txns lines further
-  -- 4 and 5 are told of each step of a turn
-  pub point345 : EachStep logs txns (decided base) further
-  pub point7 : Each (ShowsClean base logs) txns
+  pub decisions : AreFurther base logs txns further
+  pub ends : ShowsEnds logs txns lines further
+  -- run alone; and what a turn tells complete or moved is so at its step
+  pub run_alone : EachStep logs txns (decided base) further
+  pub clean : Each (ShowsClean base logs) txns
 
 -- a `run`, whose events are one history
 pub record Explained (base logs : Logs) (txns : List Txn) (h : List Event) (lines : List Shown) : Type 0 where
   pub further : List Decided
   pub apart : ExplainedApart base logs txns lines further
-  pub point6 : InOrder logs txns h
+  pub ordered : InOrder logs txns h

@@ -3,7 +3,7 @@ use Rattle.std.specs.Prelude.{◌≡◌, ◌⊎◌, ℕ, ◌≤◌, ◌<◌, ◌
 use Rattle.hb_types.specs.declared.trail.Call.{Call}
 use Rattle.hb_types.specs.declared.trail.TrailEntry.{TrailEntry}
 use Rattle.hb_types.specs.Calls.{may_pass}
-use Rattle.hb_types.specs.Lists.{Each}
+use Rattle.hb_types.specs.Lists.{Each, EachBehind}
 use Rattle.hb_model.specs.declared.reply.Reply.{Reply}
 use Rattle.hb_law.specs.Server.{Asked}
 
@@ -38,11 +38,29 @@ abbrev pub calls_at : ℕ → List Call → List Asked
 calls_at node [] = []
 calls_at node (c ∷ cs) = if c.node.0 == node then asked_by c ∷ calls_at node cs else calls_at node cs
 
+-- mgr, whose trail is no part of the law
+abbrev pub mgr : ℕ
+mgr = 10
+
+-- a node that has a trail, or mgr
+abbrev pub IsNode : ℕ → ℕ → Type 0
+IsNode nodes n = (n < nodes) ⊎ (n ≡ mgr)
+
 -- for each node and caller, what stands in the trail is what stands in the list
 pub record Merged (trails : Trails) (lists : List (List Call)) : Type 0 where
   pub same : (node caller : ℕ) (trail : List Labelled) (list : List Call) → slice_get trails node ≡ Some trail → slice_get lists caller ≡ Some list
       → filter stands (entries_of caller trail) ≡ filter stands (calls_at node list)
   pub callers : Each (λ trail. Each (λ l. l.caller < length lists) trail) trails
+  pub here : Each (λ list. Each (λ c. IsNode (length trails) c.node.0) list) lists
+
+-- ---- the trail of a desk, which labels its entries itself
+
+abbrev pub labelled : List TrailEntry → List Labelled
+labelled trail = map (λ e. record { caller = e.caller; entry = e }) trail
+
+-- each entry of a caller has a greater number than those of that caller before it, from 1 on
+abbrev pub AreNumbered : List TrailEntry → Type 0
+AreNumbered trail = EachBehind (λ before e. (1 ≤ e.nth) × Each (λ b. b.caller ≡ e.caller → b.nth < e.nth) before) [] trail
 
 -- ---- one history
 
@@ -80,13 +98,9 @@ IsTimely moment [] = ⊤
 IsTimely moment (calls c n entry ∷ es) = (moment ≤ entry.from) × (entry.from ≤ entry.to) × IsTimely entry.to es
 IsTimely moment (e ∷ es) = IsTimely moment es
 
--- mgr, whose trail is no part of the law
-abbrev pub mgr : ℕ
-mgr = 10
-
 -- a call is of a caller that has a list, at a node that has a trail or at mgr
 abbrev pub IsHere : ℕ → ℕ → Event → Type 0
-IsHere nodes callers (calls c n entry) = ((n < nodes) ⊎ (n ≡ mgr)) × (c < callers)
+IsHere nodes callers (calls c n entry) = IsNode nodes n × (c < callers)
 IsHere nodes callers _ = ⊤
 
 -- trails, lists and lines are those of one history of one thread

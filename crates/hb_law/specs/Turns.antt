@@ -8,18 +8,18 @@ use Rattle.hb_types.specs.declared.names.Tx.{Tx}
 use Rattle.hb_types.specs.declared.request.Request.TheVariants as request
 use Rattle.hb_types.specs.declared.trail.Call.{Call}
 use Rattle.hb_types.specs.Groups.{is_moving}
-use Rattle.hb_types.specs.Lists.{Has, IsIn}
+use Rattle.hb_types.specs.Lists.{Each, Has, IsIn}
 use Rattle.hb_types.specs.Places.{node_of_area}
 use Rattle.hb_model.specs.declared.reply.Reply.{Reply}
 use Rattle.hb_model.specs.declared.reply.Reply.TheVariants as reply
-use Rattle.hb_model.specs.Answers.{call, of_rows}
+use Rattle.hb_model.specs.Answers.{call, of_rows, HasAsked, is_decide}
 use Rattle.hb_model.specs.Items.{Item, turn}
 use Rattle.hb_model.specs.Locking.{LocksAmong}
 use Rattle.hb_model.specs.Needs.{check_locks, batch_locks, finish_locks}
 use Rattle.hb_model.specs.Shapes.{Hint, Keyed, check_calls, batch_calls, finish_calls}
 use Rattle.hb_model.specs.Spots.{space_in}
 use Rattle.hb_model.specs.Told.{table_among, entry_of}
-use Rattle.hb_law.specs.Callers.{WasDecided}
+use Rattle.hb_law.specs.Callers.{WasDecided, MayBeDecided}
 
 -- the rows of tables tell this number for the table of this name
 abbrev pub IsNumberTold : List Stored → List ℕ → ℕ → Type 0
@@ -50,32 +50,43 @@ AreHintedKeys h most keys calls =
 abbrev pub found_in : List Keyed → ℕ
 found_in keys = count_by (λ k. is_some k.1) keys
 
--- A turn that decides is a whole check, batch or finish, with locks of the table of locks; a batch and a finish are on a
--- number that an earlier check of their line found.
-pub data IsTurn (before : List Item) (place : ℕ) (table : List ℕ) (most : ℕ) (calls : List Call) : List Reply → Type 0 where
-  completes : (tx : Tx) (number n : ℕ) (names entries : List Stored) → of_rows calls ≡ check_calls tx number names entries → IsNumberTold names table number
-      → LocksAmong (check_locks number) calls → WasDecided n calls → IsTrue (not (tells_moving entries))
-      → IsTurn before place table most calls (reply.Complete (record { 0 = n }) ∷ [])
-  suspends : (tx : Tx) (number n turns : ℕ) (names entries : List Stored) → of_rows calls ≡ check_calls tx number names entries → IsNumberTold names table number
-      → LocksAmong (check_locks number) calls → WasDecided n calls → IsTrue (tells_moving entries)
-      → IsTurn before place table most calls (reply.Suspended turns (record { 0 = n }) ∷ [])
-  goes_on : (tx : Tx) (number n : ℕ) (names entries : List Stored) → of_rows calls ≡ check_calls tx number names entries → IsNumberTold names table number
-      → LocksAmong (check_locks number) calls → WasDecided n calls → IsTrue (tells_moving entries) → IsTurn before place table most calls []
-  moves : (tx : Tx) (h : Hint) (n : ℕ) (keys : List Keyed) → of_rows calls ≡ batch_calls tx h keys → AreHintedKeys h most keys calls
-      → Has (WasCheck place table most h.table) before → LocksAmong (batch_locks h.table h.group h.old h.new (map (λ k. k.0) keys)) calls → WasDecided n calls
-      → 1 ≤ found_in keys → IsTurn before place table most calls (reply.Moved (found_in keys) h.group (record { 0 = n }) ∷ [])
-  moves_none : (tx : Tx) (h : Hint) (n : ℕ) (keys : List Keyed) → of_rows calls ≡ batch_calls tx h keys → AreHintedKeys h most keys calls
-      → Has (WasCheck place table most h.table) before → LocksAmong (batch_locks h.table h.group h.old h.new (map (λ k. k.0) keys)) calls → WasDecided n calls
-      → found_in keys ≡ 0 → IsTurn before place table most calls []
-  finishes : (tx : Tx) (h : Hint) (n : ℕ) → of_rows calls ≡ finish_calls tx h → Has (WasCheck place table most h.table) before
-      → LocksAmong (finish_locks h.table h.group h.old) calls → WasDecided n calls → IsTurn before place table most calls []
+-- what a turn did: a check found these entries, a batch moved so many rows of a group, or a finish set an entry
+pub data Turned : Type 0 where
+  checked : (entries : List Stored) → Turned
+  moved : (group : ℕ) → (rows : ℕ) → Turned
+  finished : Turned
 
--- the calls on rows of a turn whose Decide faulted or has no line yet: those of one that decides
-pub data IsOpenTurn (before : List Item) (place : ℕ) (table : List ℕ) (most : ℕ) (calls : List Call) : Type 0 where
+-- A turn's calls on rows are those of a whole check, batch or finish, and its locks are in the table of locks. A batch and
+-- a finish are on a number that an earlier check of their line found.
+pub data IsTurn (before : List Item) (place : ℕ) (table : List ℕ) (most : ℕ) (calls : List Call) : Turned → Type 0 where
   check : (tx : Tx) (number : ℕ) (names entries : List Stored) → of_rows calls ≡ check_calls tx number names entries → IsNumberTold names table number
-      → LocksAmong (check_locks number) calls → IsOpenTurn before place table most calls
+      → LocksAmong (check_locks number) calls → IsTurn before place table most calls (checked entries)
   batch : (tx : Tx) (h : Hint) (keys : List Keyed) → of_rows calls ≡ batch_calls tx h keys → AreHintedKeys h most keys calls
       → Has (WasCheck place table most h.table) before → LocksAmong (batch_locks h.table h.group h.old h.new (map (λ k. k.0) keys)) calls
-      → IsOpenTurn before place table most calls
+      → IsTurn before place table most calls (moved h.group (found_in keys))
   finish : (tx : Tx) (h : Hint) → of_rows calls ≡ finish_calls tx h → Has (WasCheck place table most h.table) before
-      → LocksAmong (finish_locks h.table h.group h.old) calls → IsOpenTurn before place table most calls
+      → LocksAmong (finish_locks h.table h.group h.old) calls → IsTurn before place table most calls finished
+
+-- a line of a turn that asked for a decision is so, by what the turn did and by the answer of its Decide
+abbrev pub TurnTells : List Call → Turned → Reply → Type 0
+TurnTells calls (checked entries) (reply.Complete n) = WasDecided n.0 calls × IsTrue (not (tells_moving entries))
+TurnTells calls (checked entries) (reply.Suspended turns n) = WasDecided n.0 calls × IsTrue (tells_moving entries)
+TurnTells calls (moved g found) (reply.Moved rows group n) = WasDecided n.0 calls × (group ≡ g) × (rows ≡ found) × (1 ≤ found)
+TurnTells calls t (reply.Complete n) = ⊥
+TurnTells calls t (reply.Suspended turns n) = ⊥
+TurnTells calls t (reply.Moved rows group n) = ⊥
+TurnTells calls t (reply.OutcomeUnknown o) = MayBeDecided calls
+TurnTells calls t r = ¬ (MayBeDecided calls)
+
+-- a line of pdrbal that tells of a decision
+abbrev pub tells_decision : Reply → Bool
+tells_decision (reply.Moved rows group n) = true
+tells_decision (reply.Complete n) = true
+tells_decision (reply.Suspended turns n) = true
+tells_decision (reply.OutcomeUnknown o) = true
+tells_decision _ = false
+
+-- an item of pdrbal: where it asks for a decision it is a whole turn, and its lines are so; else it tells of none
+pub record IsRightTurn (before : List Item) (place : ℕ) (table : List ℕ) (most : ℕ) (calls : List Call) (lines : List Reply) : Type 0 where
+  pub decides : HasAsked is_decide calls → (t : Turned) × IsTurn before place table most calls t × Each (TurnTells calls t) lines
+  pub else_none : ¬ (HasAsked is_decide calls) → Each (λ r. IsTrue (not (tells_decision r))) lines
