@@ -9,7 +9,8 @@ use Rattle.hb_types.specs.declared.names.Tx.{Tx}
 use Rattle.hb_types.specs.declared.request.Request.TheVariants as request
 use Rattle.hb_types.specs.declared.trail.Call.{Call}
 use Rattle.hb_types.specs.declared.trail.TrailEntry.{TrailEntry}
-use Rattle.hb_types.specs.Lists.{Each}
+use Rattle.std.proofs.lemmas.Bool.{false≢true}
+use Rattle.hb_types.specs.Lists.{Each, IsIn}
 use Rattle.hb_types.specs.Records.{framed}
 use Rattle.hb_model.specs.declared.reply.Reply.{Reply}
 use Rattle.hb_model.specs.declared.reply.Reply.TheVariants as reply
@@ -24,7 +25,7 @@ use Rattle.hb_disks.specs.Images.{Images, Logs, HasItems, ReadAs}
 use Rattle.hb_disks.specs.Logless.{empty_images, empty_logs, empty_server}
 use Rattle.hb_disks.proofs.Empty.{empty_stands_with, empty_items}
 use Rattle.hb_law.specs.Callers.{Obeys, MayEnlist, MayBeDecided, is_enlist, HasAskedAt}
-use Rattle.hb_law.specs.Composition.{World, Together, NodesRan, CoordinatorRan, ServerRan, lists_of, AllObey, OperatorObeys, ShowsItems}
+use Rattle.hb_law.specs.Composition.{World, Together, NodesRan, CoordinatorRan, ServerRan, lists_of, AllObey, OperatorObeys, ShowsItems, shown_of}
 use Rattle.hb_law.specs.Coordinator as coordinator
 use Rattle.hb_law.specs.Histories.{Labelled, Merged, Trails, Shown, stands, entries_of, calls_at}
 use Rattle.hb_law.specs.Transactions.{Txn, IsTxnOf, IsRightTxn}
@@ -145,15 +146,20 @@ fes_ran : CoordinatorRan [] (reserved ∷ []) fes_trail
 fes_ran =
     record {
       last = k3;
-      ran = (k1, record { effects = coordinator.came_up ∷ []; causes = refl; right = refl; steps = (refl, refl) },
-          (k2,
+      ran = (
+        k1,
+        record { effects = coordinator.came_up ∷ []; causes = refl; right = refl; steps = (refl, refl) },
+        (
+          k2,
           record {
             effects = coordinator.reserved 1000 ∷ coordinator.begun 1 ∷ [];
             causes = (coordinator.reserved 1000 ∷ [], inr (lit< tt, refl), refl);
             right = refl;
             steps = ((lit< tt, lit≤ tt, lit≤ tt), ((refl, lit≤ tt), refl));
           },
-          (k3, record { effects = coordinator.ended 1 ∷ []; causes = inl (inl refl, refl); right = tt; steps = (inl refl, refl) }, refl)));
+          (k3, record { effects = coordinator.ended 1 ∷ []; causes = inl (inl refl, refl); right = tt; steps = (inl refl, refl) }, refl),
+        ),
+      );
       log = refl;
     }
 
@@ -179,6 +185,9 @@ nodes_ran =
 
 -- ---- lists
 
+abbrev Same : ℕ → ℕ → List Labelled → List Call → Type 0
+Same node caller trail list = filter stands (entries_of caller trail) ≡ filter stands (calls_at node list)
+
 lists_merged : Merged all_trails (lists_of world)
 lists_merged =
     record {
@@ -187,9 +196,6 @@ lists_merged =
       here = ((inl (lit< tt), tt), ((inl (lit< tt), (inr refl, (inl (lit< tt), (inl (lit< tt), (inr refl, tt))))), tt));
     }
   where
-    abbrev Same : ℕ → ℕ → List Labelled → List Call → Type 0
-    Same node caller trail list = filter stands (entries_of caller trail) ≡ filter stands (calls_at node list)
-
     same : (node caller : ℕ) (trail : List Labelled) (list : List Call) → slice_get all_trails node ≡ Some trail → slice_get (lists_of world) caller ≡ Some list
         → filter stands (entries_of caller trail) ≡ filter stands (calls_at node list)
     same zero zero trail list t l = at_two (Same 0 0) fes_trail trail (opening ++ []) list t l refl
@@ -212,17 +218,20 @@ abbrev enlisted : List Call
 enlisted = entered ++ call 1 (request.Enlist t1) answer.Down ∷ []
 
 may_enlist : MayEnlist 1 entered
-may_enlist = record { once = neither (λ h. h.1) (λ h. h); undecided = neither (λ h. h) (λ h. h); not_undone = neither (λ h. h) (λ h. h) }
+may_enlist = record { once = neither (λ h. false≢true h.1) (λ h. h); undecided = neither false≢true (λ h. h); not_undone = neither false≢true (λ h. h) }
 
 not_decided : ¬ (MayBeDecided enlisted)
-not_decided = neither (λ h. h.0) (neither (λ h. h.0) (λ h. h))
+not_decided = neither (λ h. false≢true h.0) (neither (λ h. false≢true h.0) (λ h. h))
 
 session_obeys : Obeys 0 (asked ++ [])
 session_obeys = ((refl, refl), (tt, ((refl, may_enlist), ((refl, not_decided), (tt, tt)))))
 
 obey : AllObey (lists_of world)
 obey zero list h = at_one (Obeys 0) (asked ++ []) list h session_obeys
-obey (suc n) list h = none_is list h
+obey (suc n) list h = none_is list (subst (λ k. slice_get (lists_of world) k ≡ Some list) (next n) h)
+  where
+    next : (n : ℕ) → suc n + 1 ≡ suc (suc n)
+    next n = omega arith
 
 operator : OperatorObeys (lists_of world)
 operator list h = at_one (Obeys 2) (opening ++ []) list h (tt, tt)
@@ -248,14 +257,14 @@ began_here =
     }
 
 none_decides : ¬ (HasAsked is_decide asked)
-none_decides = neither (λ h. h) (neither (λ h. h) (neither (λ h. h) (neither (λ h. h) (neither (λ h. h) (λ h. h)))))
+none_decides = neither false≢true (neither false≢true (neither false≢true (neither false≢true (neither false≢true (λ h. h)))))
 
 faithful : Faithful 1 (record { bytes = 0; locks = 0 }) false lock_table asked ds_is_down
 faithful =
     record {
       undecided = none_decides;
-      does_rightly = λ h. absurd h;
-      undone = λ h. inr (inr (inr (inl tt)));
+      does_rightly = λ h. absurd (false≢true h);
+      undone = λ h. inr (inr (inr (inl refl)));
       locks = (tt, (tt, (tt, (tt, (tt, tt)))));
       sourced = record { shown = tt; written = (tt, (tt, (tt, (tt, (tt, tt))))) };
     }
@@ -265,6 +274,9 @@ right = record { right = ((false, faithful), tt); kinds = inl ((tt, tt), lit≤ 
 
 -- ---- lines
 
+abbrev AllShown : ℕ → List Item → Type 0
+AllShown caller list = Each (λ i. Each (λ l. IsIn l (line ∷ [])) (shown_of caller i)) list
+
 lines_shown : ShowsItems all_lists (line ∷ [])
 lines_shown =
     record {
@@ -272,17 +284,19 @@ lines_shown =
       each_line = ((locks ∷ [], refl, inl (inl refl)), tt);
     }
   where
-    each : (caller : ℕ) (list : List Item) → slice_get all_lists caller ≡ Some list → Each _ list
-    each zero list h = at_one _ (opens ∷ []) list h (tt, tt)
-    each (suc zero) list h = at_one _ (locks ∷ []) list h ((inl refl, tt), tt)
+    each : (caller : ℕ) (list : List Item) → slice_get all_lists caller ≡ Some list → AllShown caller list
+    each zero list h = at_one (AllShown 0) (opens ∷ []) list h (tt, tt)
+    each (suc zero) list h = at_one (AllShown 1) (locks ∷ []) list h ((inl refl, tt), tt)
     each (suc (suc n)) list h = none_is list h
 
 -- ---- images
 
 fes_items : HasItems fes_image (reserved ∷ [])
-fes_items =
-    (record { place = 0; item = reserved } ∷ [],
-    (refl, record { opened = refl; has_record = ((lit≤ tt, lit≤ tt), lit≤ tt); spelled = refl; inside = lit< tt }, (λ e. omega arith)), refl)
+fes_items = (
+  record { place = 0; item = reserved } ∷ [],
+  (refl, record { opened = refl; has_record = ((lit≤ tt, lit≤ tt), lit≤ tt); spelled = refl; inside = lit< tt }, (λ e. omega arith)),
+  refl,
+)
 
 pub ds_down_together : Together written world
 ds_down_together =
@@ -298,6 +312,6 @@ ds_down_together =
       back_ends_few = (lit≤ tt, lit≤ tt);
       txns = record { each = (began_here, tt); all = (tt, ((inl refl, tt), tt)) };
       right = (right, tt);
-      outcomes = ((tt, tt), ((tt, tt), tt));
+      outcomes = ((tt, tt), (((tt, tt), tt), tt));
       shown = lines_shown;
     }
