@@ -1,5 +1,5 @@
 -- States that the system can have: names, limits, numbers, and how groups are spread.
-use Rattle.std.specs.Prelude.{◌≡◌, ◌≢◌, ℕ, ◌+◌, ◌-◌, ◌*◌, ◌/◌, ◌%◌, ◌≤◌, ◌<◌, ◌==◌, nat_le, Bool, false, ◌&&◌, ◌||◌, not, IsTrue, List, [], ◌∷◌, length, map, All, Any, Contains, count_by, slice_get, Option, Some, IsSome, MatchOption}
+use Rattle.std.specs.Prelude.{◌≡◌, ◌≢◌, ℕ, ◌+◌, ◌-◌, ◌*◌, ◌/◌, ◌%◌, ◌≤◌, ◌<◌, ◌==◌, nat_le, Bool, false, ◌&&◌, ◌||◌, not, IsTrue, List, [], ◌∷◌, length, map, Contains, count_by, slice_get, Option, Some, IsSome, MatchOption}
 use Rattle.std.specs.List.{range_with_len, list_all}
 use Rattle.std.specs.Ordering.{nat_cmp, int_cmp}
 use Rattle.hb_types.specs.declared.entry.Entry.{Entry}
@@ -8,7 +8,7 @@ use Rattle.hb_types.specs.declared.value.Value.{Value}
 use Rattle.hb_types.specs.declared.value.Value.TheVariants as value
 use Rattle.hb_types.specs.declared.value.Column.{Column}
 use Rattle.hb_types.specs.Groups.{groups, target}
-use Rattle.hb_types.specs.Lists.{Ascends, has_twins}
+use Rattle.hb_types.specs.Lists.{Ascends, Each, Has, has_twins}
 use Rattle.hb_types.specs.Numbers.{is_integer}
 use Rattle.hb_model.specs.declared.table.Table.{Table}
 use Rattle.hb_model.specs.Define.{areas_of}
@@ -49,7 +49,7 @@ pub record AreAreas (back_ends : ℕ) (s : State) : Type 0 where
   pub few : length s.layout.areas ≤ 64
   pub ascend : Ascends (λ a b. nat_cmp a.number b.number) s.layout.areas
   pub names_differ : AllApart (λ a b. bytes_eq a.name b.name) s.layout.areas
-  pub each : All (IsArea back_ends s) s.layout.areas
+  pub each : Each (IsArea back_ends s) s.layout.areas
 
 -- ---- tables
 
@@ -69,11 +69,11 @@ pub record IsTable (t : Table) : Type 0 where
   pub named : IsName t.name
   pub some_columns : 1 ≤ length t.columns
   pub few_columns : length t.columns ≤ 16
-  pub columns_named : All (λ c. IsName c.name × (c.size ≤ 255)) t.columns
+  pub columns_named : Each (λ c. IsName c.name × (c.size ≤ 255)) t.columns
   pub columns_differ : AllApart (λ a b. bytes_eq a.name b.name) t.columns
   pub key_is_number : MatchOption (slice_get t.columns t.key) ⊥ (λ c. c.size ≡ 0)
   pub rows_ascend : Ascends (λ a b. int_cmp (key_of t a) (key_of t b)) t.rows
-  pub rows_fit : All (FitsAll t.columns) t.rows
+  pub rows_fit : Each (FitsAll t.columns) t.rows
 
 -- ---- spreads
 
@@ -95,18 +95,18 @@ pub record IsSpread (s : State) (t : Spread) : Type 0 where
   pub some_members : 1 ≤ length t.members
   pub few_members : length t.members ≤ 16
   pub members_differ : AllApart (λ a b. a == b) t.members
-  pub members_are_areas : All (λ m. Any (λ a. a.number ≡ m) s.layout.areas) t.members
+  pub members_are_areas : Each (λ m. Has (λ a. a.number ≡ m) s.layout.areas) t.members
   pub all_groups : length t.entries ≡ groups
-  pub entries_among : All (IsEntry t.members (slice_get t.members (length t.members - 1))) t.entries
-  pub fair : All (IsFair t) t.members
+  pub entries_among : Each (IsEntry t.members (slice_get t.members (length t.members - 1))) t.entries
+  pub fair : Each (IsFair t) t.members
 
 -- a state that the system of so many back ends can have
 pub record IsState (back_ends : ℕ) (s : State) : Type 0 where
   pub areas : AreAreas back_ends s
   pub few_tables : length s.tables ≤ 64
   pub tables_ascend : Ascends (λ a b. text_cmp a.name b.name) s.tables
-  pub tables : All IsTable s.tables
+  pub tables : Each IsTable s.tables
   pub one_spread_each : length s.layout.spreads ≡ length s.tables
   pub spreads_numbered : map (λ t. t.number) s.layout.spreads ≡ range_with_len 1 (length s.layout.spreads)
   pub spread_names_differ : AllApart (λ a b. bytes_eq a.name b.name) s.layout.spreads
-  pub spreads : All (IsSpread s) s.layout.spreads
+  pub spreads : Each (IsSpread s) s.layout.spreads
