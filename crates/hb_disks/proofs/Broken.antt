@@ -1,26 +1,21 @@
 -- Eight ways in which the small disks break one rule each.
-use Rattle.std.proofs.Common.{◌≡◌, ◌⊎◌, ℕ, zero, suc, ◌+◌, ◌≤◌, true, false, List, [], ◌∷◌, ◌++◌, Some, None, refl, ap, sym, pos, arith, inl, inr, subst}
-use Rattle.std.specs.Prelude.{codes, Option, IsTrue, slice_index_or, replicate}
+use Rattle.std.proofs.Common.{◌≡◌, ◌⊎◌, ℕ, ◌≤◌, false, List, [], ◌∷◌, ◌++◌, Some, None, refl, ap, sym, pos, arith, inl, inr, subst}
+use Rattle.std.specs.Prelude.{Option, IsTrue, slice_index_or, replicate}
 use Rattle.std.proofs.lemmas.Bool.{false≢true}
 use Rattle.hb_types.specs.declared.change.LogItem.{LogItem}
 use Rattle.hb_types.specs.declared.change.LogItem.TheVariants as item
 use Rattle.hb_types.specs.declared.change.Stored.{Stored}
 use Rattle.hb_types.specs.declared.lock.Mode.TheVariants as mode
-use Rattle.hb_types.specs.declared.places.Place.{Place}
 use Rattle.hb_types.specs.Lists.{Each, EachBehind}
-use Rattle.hb_types.specs.Put.{lookup}
-use Rattle.hb_model.specs.Answers.{rows_of}
-use Rattle.hb_model.specs.Families.{Family}
 use Rattle.hb_model.specs.Spots.{place_in}
-use Rattle.hb_model.specs.State.{State}
 use Rattle.hb_model.specs.System.{Sys}
 use Rattle.hb_disks.specs.Disks.{written}
-use Rattle.hb_disks.specs.Images.{Images, Logs, decided}
+use Rattle.hb_disks.specs.Images.{Logs, decided}
 use Rattle.hb_disks.specs.Points.{Point, HasBase}
 use Rattle.hb_disks.specs.Says.{LocksFit}
 use Rattle.hb_disks.specs.StandsFor.{HaveTheirOwn, AreReserved, AreDecisions, AllAgree}
-use Rattle.hb_disks.specs.WholeImage.{PointIs, IsPointAt, header_bytes}
-use Rattle.hb_disks.proofs.Small.{vote, commit, decision, small_logs, small_state, a1, a1_stored, a1_place}
+use Rattle.hb_disks.specs.WholeImage.{IsPointAt}
+use Rattle.hb_disks.proofs.Small.{vote, commit, decision, small_logs, small_state, a1_stored}
 
 abbrev with_fes : List LogItem → Logs
 with_fes fes = record small_logs { fes = fes }

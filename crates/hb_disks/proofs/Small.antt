@@ -21,8 +21,8 @@ use Rattle.hb_types.specs.Records.{IsChange}
 use Rattle.hb_types.specs.Rows.{row_bytes, IsRow, HasBytes}
 use Rattle.hb_model.specs.declared.table.Table.{Table}
 use Rattle.hb_model.specs.Answers.{rows_of}
-use Rattle.hb_model.specs.Dictionary.{area_row, dictionary}
-use Rattle.hb_model.specs.Families.{EachServer, Family}
+use Rattle.hb_model.specs.Dictionary.{area_row}
+use Rattle.hb_model.specs.Families.{EachServer}
 use Rattle.hb_model.specs.Spots.{dictionary_space, areas_space}
 use Rattle.hb_model.specs.State.{State, Area}
 use Rattle.hb_model.specs.System.{Sys}
@@ -31,7 +31,7 @@ use Rattle.hb_disks.specs.Disks.{StandsFor, written}
 use Rattle.hb_disks.specs.Images.{Images, Logs, HasItems, family, decided}
 use Rattle.hb_disks.specs.Logless.{empty_server}
 use Rattle.hb_disks.specs.Points.{HasBase}
-use Rattle.hb_disks.specs.Says.{Decided, decisions, held, redo, Redone}
+use Rattle.hb_disks.specs.Says.{redo}
 use Rattle.hb_disks.specs.StandsFor.{AreLogs, Agrees, StandsWith}
 use Rattle.hb_disks.proofs.Empty.{empty_items, empty_base}
 

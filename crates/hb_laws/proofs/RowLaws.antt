@@ -1,5 +1,5 @@
 -- Rows by ascending place: changes keep them so, and what stands at each place tells them.
-use Rattle.std.proofs.Common.{◌≡◌, Bool, true, false, refl, sym, ◌∙◌, ap, subst, cond, List, [], ◌∷◌}
+use Rattle.std.proofs.Common.{◌≡◌, true, false, refl, sym, ◌∙◌, ap, subst, List, [], ◌∷◌}
 use Rattle.std.specs.Prelude.{Option, Some, None, ℕ}
 use Rattle.std.specs.Ordering.{is_lt, ordering_reverse}
 use Rattle.std.specs.declared.cmp.Ordering.{Ordering}
@@ -7,10 +7,10 @@ use Rattle.std.specs.declared.cmp.Ordering.TheVariants.{Less, Equal, Greater}
 use Rattle.hb_types.specs.declared.change.Change.{Change}
 use Rattle.hb_types.specs.declared.change.Stored.{Stored}
 use Rattle.hb_types.specs.declared.places.Place.{Place}
-use Rattle.hb_types.specs.Lists.{Ascends, Each}
+use Rattle.hb_types.specs.Lists.{Each}
 use Rattle.hb_types.specs.Places.{place_cmp, same_place}
 use Rattle.hb_types.specs.Put.{put, with_row, with_stored, without_place, lookup}
-use Rattle.hb_types.proofs.Ascending.{irreflexive, asymmetric, Ascends-tail, Ascends-first, Each-of}
+use Rattle.hb_types.proofs.Ascending.{irreflexive, Ascends-tail, Ascends-first, Each-of}
 use Rattle.hb_types.proofs.PutLaws.{by_test, lookup-without_same}
 use Rattle.hb_types.proofs.SamePlace.{same_place-eq, same_place-refl}
 use Rattle.hb_laws.specs.RowOrder.{AreAscending}

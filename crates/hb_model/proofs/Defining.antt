@@ -1,8 +1,8 @@
 -- CREATE RDAREA, CREATE TABLE and ADD RDAREA, with each refusal, computed.
-use Rattle.std.proofs.Common.{◌≡◌, ℕ, pos, true, false, refl, List, [], ◌∷◌, map}
+use Rattle.std.proofs.Common.{◌≡◌, ℕ, false, refl, List, [], ◌∷◌, map}
 use Rattle.std.specs.Prelude.{codes}
 use Rattle.std.specs.List.{range_with_len}
-use Rattle.hb_types.specs.declared.entry.Entry.TheVariants.{At, Moving}
+use Rattle.hb_types.specs.declared.entry.Entry.TheVariants.{Moving}
 use Rattle.hb_types.specs.declared.value.Column.{Column}
 use Rattle.hb_model.specs.declared.reply.Reply.TheVariants as reply
 use Rattle.hb_model.specs.declared.statement.Statement.{Statement}

@@ -1,5 +1,5 @@
 -- No statement changes a name's number, or a table's columns.
-use Rattle.std.proofs.Common.{◌≡◌, ℕ, Bool, true, false, cond, refl, sym, ◌∙◌, ap, map, List, [], ◌∷◌, ◌++◌}
+use Rattle.std.proofs.Common.{◌≡◌, ℕ, Bool, true, false, refl, ◌∙◌, List, [], ◌∷◌}
 use Rattle.std.specs.Prelude.{◌+◌, Option, Some, None, Result, Ok, Err, ⊤, if◌then◌else◌, is_some, is_none, drop, option_map, unwrap_or, nat_le}
 use Rattle.std.specs.Str.{bytes_eq}
 use Rattle.hb_types.specs.declared.value.Column.{Column}
@@ -11,7 +11,7 @@ use Rattle.hb_model.specs.declared.statement.Statement.{Statement}
 use Rattle.hb_model.specs.declared.statement.Statement.TheVariants as statement
 use Rattle.hb_model.specs.declared.table.Table.{Table}
 use Rattle.hb_model.specs.Define.{new_area, create_area, new_table, new_spread, create_table, create_table_refusals, create_area_refusals, add_area, spread_with}
-use Rattle.hb_model.specs.Does.{Effect, does, effect, settled, most_bytes, reads, unless, on_table, with_rows, rows_put, first_refusal, insert_in, select_in, update_in, delete_in, area_in, table_in, added_in, add_in}
+use Rattle.hb_model.specs.Does.{Effect, does, effect, settled, most_bytes, reads, unless, on_table, with_rows, rows_put, first_refusal, insert_in, select_in, update_in, delete_in, added_in}
 use Rattle.hb_model.specs.Kept.{NamesStay}
 use Rattle.hb_model.specs.Names.{back_end_named}
 use Rattle.hb_model.specs.State.{State, Area, Spread, area_named, spread_named, table_named}

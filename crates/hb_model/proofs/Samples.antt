@@ -1,6 +1,6 @@
 -- A small state for worked examples: two areas, and a table of numbers and texts.
 use Rattle.std.proofs.Common.{ℕ, pos, List, [], ◌∷◌, map}
-use Rattle.std.specs.Prelude.{codes, Bool, false}
+use Rattle.std.specs.Prelude.{codes, false}
 use Rattle.hb_types.specs.declared.entry.Entry.{Entry}
 use Rattle.hb_types.specs.declared.entry.Entry.TheVariants.{At}
 use Rattle.hb_types.specs.declared.value.Value.{Value}
@@ -8,9 +8,8 @@ use Rattle.hb_types.specs.declared.value.Value.TheVariants as value
 use Rattle.hb_types.specs.declared.value.Column.{Column}
 use Rattle.hb_model.specs.declared.reply.Reply.{Reply}
 use Rattle.hb_model.specs.declared.statement.Statement.{Statement}
-use Rattle.hb_model.specs.declared.statement.Statement.TheVariants as statement
 use Rattle.hb_model.specs.Does.{does}
-use Rattle.hb_model.specs.State.{State, Area, Spread}
+use Rattle.hb_model.specs.State.{State}
 
 abbrev pub number_column : List ℕ → Column
 number_column name = record { name = name; size = 0 }

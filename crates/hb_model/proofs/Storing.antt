@@ -1,5 +1,5 @@
 -- INSERT, SELECT, UPDATE, DELETE and LOCK TABLE, with each refusal, computed.
-use Rattle.std.proofs.Common.{◌≡◌, ℕ, pos, negsuc, true, false, refl, ap, ◌∙◌, map, length, List, [], ◌∷◌, Some, None}
+use Rattle.std.proofs.Common.{◌≡◌, ℕ, pos, true, false, refl, ap, ◌∙◌, map, length, List, [], ◌∷◌, Some, None}
 use Rattle.std.specs.Prelude.{codes, Option, sum_by, filter, not, ◌*◌, if◌then◌else◌}
 use Rattle.std.specs.Option.{option_or}
 use Rattle.hb_types.specs.declared.entry.Entry.TheVariants.{At}
@@ -14,7 +14,6 @@ use Rattle.hb_model.specs.declared.expression.Expr.TheVariants as expr
 use Rattle.hb_model.specs.declared.expression.Expr.TheVariants.{outs-Add, outs-Mul, outs-Name, outs-Int, outs-Text}
 use Rattle.hb_model.specs.declared.reply.Reply.TheVariants as reply
 use Rattle.hb_model.specs.declared.statement.Set.{Set}
-use Rattle.hb_model.specs.declared.statement.Statement.{Statement}
 use Rattle.hb_model.specs.declared.statement.Statement.TheVariants as statement
 use Rattle.hb_model.specs.declared.statement.What.TheVariants as what
 use Rattle.hb_model.specs.declared.reply.Reply.{Reply}

@@ -1,8 +1,6 @@
 -- Three inserts and a scan, each transaction alone, computed.
-use Rattle.std.proofs.Common.{◌≡◌, ℕ, pos, true, false, refl, List, [], ◌∷◌, Some, None, map, length, slice_get}
+use Rattle.std.proofs.Common.{◌≡◌, false, refl, List, [], ◌∷◌, None, map}
 use Rattle.std.specs.Prelude.{codes, Bool}
-use Rattle.hb_types.specs.declared.entry.Entry.TheVariants.{At}
-use Rattle.hb_types.specs.declared.value.Column.{Column}
 use Rattle.hb_model.specs.declared.reply.Reply.TheVariants as reply
 use Rattle.hb_model.specs.declared.statement.Statement.{Statement}
 use Rattle.hb_model.specs.declared.statement.Statement.TheVariants as statement
@@ -10,7 +8,7 @@ use Rattle.hb_model.specs.declared.statement.What.TheVariants as what
 use Rattle.hb_model.specs.Alone.{Ended, alone, alone_from}
 use Rattle.hb_model.specs.Does.{does, effect}
 use Rattle.hb_model.specs.Needs.{locks_of}
-use Rattle.hb_model.specs.State.{State, nothing, spread_named}
+use Rattle.hb_model.specs.State.{nothing}
 use Rattle.hb_model.proofs.Samples.{row, number_column}
 
 -- not too many locks

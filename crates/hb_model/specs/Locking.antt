@@ -1,11 +1,10 @@
 -- The table of locks as a clause of a statement's calls: each Lock is one that the statement and the answers before it ask for.
-use Rattle.std.specs.Prelude.{◌≡◌, ◌⊎◌, ℕ, ◌+◌, ◌==◌, ◌&&◌, ℤ, pos, Bool, if◌then◌else◌, List, [], ◌∷◌, filter, filter_map, flat_map, length, Some, None, Option, MatchOption, ⊤}
+use Rattle.std.specs.Prelude.{◌≡◌, ◌⊎◌, ℕ, ◌+◌, ◌==◌, ◌&&◌, ℤ, pos, Bool, if◌then◌else◌, List, [], filter, filter_map, flat_map, length, Some, None, Option, MatchOption, ⊤}
 use Rattle.std.specs.Ordering.{int_eq}
 use Rattle.hb_types.specs.declared.change.Stored.{Stored}
 use Rattle.hb_types.specs.declared.entry.Entry.{Entry}
 use Rattle.hb_types.specs.declared.lock.Mode.{Mode}
 use Rattle.hb_types.specs.declared.lock.Mode.TheVariants as mode
-use Rattle.hb_types.specs.declared.places.Path.{Path}
 use Rattle.hb_types.specs.declared.places.Path.TheVariants as path
 use Rattle.hb_types.specs.declared.request.Request.{Request}
 use Rattle.hb_types.specs.declared.request.Request.TheVariants as request

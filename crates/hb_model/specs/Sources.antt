@@ -1,7 +1,5 @@
 -- Where the rows of a statement come from, whatever its answers are: what it shows, it was answered; what it writes, it made of that.
 use Rattle.std.specs.Prelude.{◌≡◌, ℕ, ◌≤◌, Bool, true, false, IsTrue, List, [], map, Option, Some, None, ⊤, slice_get}
-use Rattle.hb_types.specs.declared.answer.Answer.{Answer}
-use Rattle.hb_types.specs.declared.answer.Answer.TheVariants as answer
 use Rattle.hb_types.specs.declared.change.Stored.{Stored}
 use Rattle.hb_types.specs.declared.places.Place.{Place}
 use Rattle.hb_types.specs.declared.request.Request.{Request}

@@ -1,5 +1,5 @@
 -- What rows of the dictionary tell to who reads them.
-use Rattle.std.specs.Prelude.{ℕ, nat_abs, List, Option, Some, find, filter_map, option_map, option_and_then}
+use Rattle.std.specs.Prelude.{ℕ, nat_abs, List, Option, find, filter_map, option_map, option_and_then}
 use Rattle.std.specs.Str.{bytes_eq}
 use Rattle.hb_types.specs.declared.change.Stored.{Stored}
 use Rattle.hb_types.specs.declared.entry.Entry.{Entry}

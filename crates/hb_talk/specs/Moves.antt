@@ -1,5 +1,5 @@
 -- What pdrbal asks: checks, batches and finishes, each a transaction of its own.
-use Rattle.std.specs.Prelude.{ℕ, zero, suc, ◌+◌, ◌==◌, nat_abs, ℤ, Bool, true, false, ◌&&◌, if◌then◌else◌, List, [], ◌∷◌, ◌++◌, filter_map, sum, Option, Some, None, option_and_then, Result, Ok, Err}
+use Rattle.std.specs.Prelude.{ℕ, zero, suc, ◌+◌, ◌==◌, nat_abs, ℤ, Bool, true, false, ◌&&◌, if◌then◌else◌, List, [], ◌∷◌, ◌++◌, filter_map, Option, Some, None, option_and_then, Result, Ok, Err}
 use Rattle.hb_types.specs.declared.change.Stored.{Stored}
 use Rattle.hb_types.specs.declared.entry.Entry.{Entry}
 use Rattle.hb_types.specs.declared.entry.Entry.TheVariants.{At, Moving}
@@ -20,7 +20,7 @@ use Rattle.hb_model.specs.Spots.{ds, dictionary_space, entries_space, entry_plac
 use Rattle.hb_model.specs.Told.{entry_of}
 use Rattle.hb_talk.specs.Ends.{fes1, committing, rolling_back}
 use Rattle.hb_talk.specs.Plans.{table_of, entry_under, putting}
-use Rattle.hb_talk.specs.Talk.{Talk, says, asks, going_on, Planning, ◌>>=◌, ◌>>◌, pure, lock, read, scan_group, write, each, Use, mgr, refusal_of}
+use Rattle.hb_talk.specs.Talk.{Talk, says, asks, going_on, Planning, ◌>>=◌, ◌>>◌, pure, lock, read, scan_group, write, Use, mgr, refusal_of}
 
 -- a pdrbal line of a session: its table, keys per batch, and turns
 pub record Mover : Type 0 where
@@ -70,23 +70,25 @@ abbrev pub is_hinted : Hint → Option Entry → Bool
 is_hinted h (Some (Moving a b)) = (a == h.old) && (b == h.new)
 is_hinted h _ = false
 
-abbrev pub moved : Hint → ℤ → Option (List ℕ) → Planning ℕ
-moved h key None = pure 0
-moved h key (Some row) =
+-- the Writes of a key that is there, and what follows with one key more
+abbrev pub moved : Hint → ℤ → Option (List ℕ) → ℕ → Planning ℕ
+moved h key None n = pure n
+moved h key (Some row) n =
     write (node_of_area h.new) (record { place = place_in h.new h.table key; row = Some row })
-    >> (write (node_of_area h.old) (record { place = place_in h.old h.table key; row = None }) >> pure 1)
+    >> (write (node_of_area h.old) (record { place = place_in h.old h.table key; row = None }) >> pure (n + 1))
 
--- one key of a batch: locked in both areas, and moved where it is there
-abbrev pub move_key : Hint → ℤ → Planning ℕ
-move_key h key =
+-- the keys left of a batch: each is locked in both areas, and moved where it is there
+abbrev pub moving_keys : Hint → List ℤ → ℕ → Planning ℕ
+moving_keys h [] n = pure n
+moving_keys h (key ∷ more) n =
     lock (node_of_area h.old) (path.Key (place_in h.old h.table key)) mode.X
     >> (lock (node_of_area h.new) (path.Key (place_in h.new h.table key)) mode.X
-    >> (read (node_of_area h.old) (place_in h.old h.table key) >>= moved h key))
+    >> (read (node_of_area h.old) (place_in h.old h.table key) >>= (λ row. moved h key row n >>= moving_keys h more)))
 
 -- the keys that a batch moved, or none where the entry was not the hinted one
 abbrev pub batch_plan : Hint → List ℤ → Planning (Option ℕ)
 batch_plan h keys =
-    entry_under mode.S h.table h.group >>= (λ e. if is_hinted h e then each (move_key h) keys >>= (λ ns. pure (Some (sum ns))) else pure None)
+    entry_under mode.S h.table h.group >>= (λ e. if is_hinted h e then moving_keys h keys 0 >>= (λ n. pure (Some n)) else pure None)
 
 -- what a finish found
 pub data Finish : Type 0 where

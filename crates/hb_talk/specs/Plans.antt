@@ -1,7 +1,6 @@
 -- The plan of each statement: what a session asks of ds and of the back ends.
-use Rattle.std.specs.Prelude.{ℕ, ◌+◌, ◌==◌, nat_lt, ℤ, pos, Bool, cond, nat_abs, if◌then◌else◌, List, [], ◌∷◌, ◌++◌, length, map, filter, filter_map, flat_map, find, fold, sum_by, Option, Some, None, option_map, option_and_then, option_to_list}
+use Rattle.std.specs.Prelude.{ℕ, ◌+◌, nat_lt, ℤ, Bool, cond, if◌then◌else◌, List, [], ◌∷◌, ◌++◌, length, map, filter, filter_map, flat_map, fold, sum_by, Option, Some, None, option_map, option_to_list}
 use Rattle.std.specs.Option.{option_or}
-use Rattle.std.specs.Str.{bytes_eq}
 use Rattle.std.specs.Ordering.{int_cmp, is_lt}
 use Rattle.hb_types.specs.declared.change.Change.{Change}
 use Rattle.hb_types.specs.declared.change.Stored.{Stored}
@@ -10,7 +9,6 @@ use Rattle.hb_types.specs.declared.lock.Mode.{Mode}
 use Rattle.hb_types.specs.declared.lock.Mode.TheVariants as mode
 use Rattle.hb_types.specs.declared.places.Path.TheVariants as path
 use Rattle.hb_types.specs.declared.places.Place.{Place}
-use Rattle.hb_types.specs.declared.places.Space.{Space}
 use Rattle.hb_types.specs.declared.value.Value.{Value}
 use Rattle.hb_types.specs.Groups.{group_of, route, target}
 use Rattle.hb_types.specs.Places.{node_of_area}
@@ -24,10 +22,10 @@ use Rattle.hb_model.specs.declared.statement.Set.{Set}
 use Rattle.hb_model.specs.declared.statement.What.{What}
 use Rattle.hb_model.specs.declared.statement.What.TheVariants as what
 use Rattle.hb_model.specs.Spots.{ds, tables_space, entries_space, dictionary_space, entry_place, space_in, place_in, ascending}
-use Rattle.hb_model.specs.Told.{Found, found_in, table_among, entry_of}
+use Rattle.hb_model.specs.Told.{Found, table_among, entry_of}
 use Rattle.hb_model.specs.Does.{first_refusal, insert_refusals, select_refusals, update_refusals, most_bytes}
 use Rattle.hb_model.specs.Rows.{key_of, point, chosen, chooses, shown, assigned, assigning_refusal, first_some}
-use Rattle.hb_talk.specs.Talk.{Planning, ◌>>=◌, ◌>>◌, pure, refused, refuse, lock, read, scan, scan_group, write, each}
+use Rattle.hb_talk.specs.Talk.{Planning, ◌>>=◌, ◌>>◌, pure, refused, refuse, lock, read, scan, scan_group, write}
 
 abbrev pub some_or : {A : Type 0} → Reply → Option A → Planning A
 some_or r None = refused r
@@ -50,19 +48,24 @@ entry_under m table group = lock ds (path.Key (entry_place table group)) m >> (r
 abbrev pub stored_at : Place → Option (List ℕ) → List Stored
 stored_at place row = option_to_list (option_map (λ r. record { place = place; row = r }) row)
 
--- the row of a key in one area, under a lock
-abbrev pub row_at : Mode → ℕ → ℤ → ℕ → Planning (List Stored)
-row_at m table key area =
+-- the rows of a key in the areas left, each read under a lock, behind those found
+abbrev pub walking : Mode → ℕ → ℤ → List ℕ → List Stored → Planning (List Stored)
+walking m table key [] rows = pure rows
+walking m table key (area ∷ more) rows =
     lock (node_of_area area) (path.Key (place_in area table key)) m
-    >> (read (node_of_area area) (place_in area table key) >>= (λ row. pure (stored_at (place_in area table key) row)))
+    >> (read (node_of_area area) (place_in area table key) >>= (λ row. walking m table key more (rows ++ stored_at (place_in area table key) row)))
 
--- the rows of a table in one area, under a lock
-abbrev pub rows_at : Mode → ℕ → ℕ → Planning (List Stored)
-rows_at m table area = lock (node_of_area area) (path.Whole (space_in area table)) m >> scan (node_of_area area) (space_in area table)
+-- the rows of a table in the areas left, each scanned under a lock, behind those found
+abbrev pub scanning : Mode → ℕ → List ℕ → List Stored → Planning (List Stored)
+scanning m table [] rows = pure rows
+scanning m table (area ∷ more) rows =
+    lock (node_of_area area) (path.Whole (space_in area table)) m
+    >> (scan (node_of_area area) (space_in area table) >>= (λ found. scanning m table more (rows ++ found)))
 
-abbrev pub all_of : {A : Type 0} → List (List A) → List A
-all_of [] = []
-all_of (x ∷ xs) = x ++ all_of xs
+-- locks on a table in the areas left
+abbrev pub locking : Mode → ℕ → List ℕ → Planning (Unit {0})
+locking m table [] = pure tt
+locking m table (area ∷ more) = lock (node_of_area area) (path.Whole (space_in area table)) m >> locking m table more
 
 -- the areas of the routes of entries, ascending
 abbrev pub areas_of_routes : List Stored → List ℕ
@@ -72,14 +75,13 @@ areas_of_routes entries = ascending (flat_map (λ r. flat_map route (option_to_l
 
 -- those of one key: in each area of its route; the last area is where a new row goes
 abbrev pub point_rows : Mode → ℕ → ℤ → Planning (List Stored)
-point_rows m table key =
-    entry_under mode.S table (group_of key) >>= (λ entry. each (row_at m table key) (flat_map route (option_to_list entry)) >>= (λ rows. pure (all_of rows)))
+point_rows m table key = entry_under mode.S table (group_of key) >>= (λ entry. walking m table key (flat_map route (option_to_list entry)) [])
 
 -- all of them, in the areas of any route
 abbrev pub all_rows : Mode → ℕ → Planning (List Stored)
 all_rows m table =
     lock ds (path.Group (dictionary_space entries_space) table) mode.S
-    >> (scan_group ds (dictionary_space entries_space) table >>= (λ entries. each (rows_at m table) (areas_of_routes entries) >>= (λ rows. pure (all_of rows))))
+    >> (scan_group ds (dictionary_space entries_space) table >>= (λ entries. scanning m table (areas_of_routes entries) []))
 
 abbrev pub considered : Mode → Found → Option ℤ → Planning (List Stored)
 considered m f (Some key) = point_rows m f.0 key
@@ -108,11 +110,15 @@ with_lying t ls = record t { rows = map (λ l. l.1) ls }
 abbrev pub sizes : List Change → ℕ
 sizes changes = sum_by (λ c. length (change_bytes c)) changes
 
+-- the Writes that are left
+abbrev pub writing : List Change → Planning (Unit {0})
+writing [] = pure tt
+writing (c ∷ more) = write (node_of_area c.place.space.area) c >> writing more
+
 -- the Writes of a statement, if its changes are not too much
 abbrev pub writes : List Change → Planning (Unit {0})
 writes changes = λ u.
-    if nat_lt most_bytes (u.bytes + sizes changes) then refused reply.TooMuch u
-    else (each (λ c. write (node_of_area c.place.space.area) c) changes >> pure tt) (record u { bytes = u.bytes + sizes changes })
+    if nat_lt most_bytes (u.bytes + sizes changes) then refused reply.TooMuch u else writing changes (record u { bytes = u.bytes + sizes changes })
 
 abbrev pub putting : Place → List Value → Change
 putting place values = record { place = place; row = Some (row_bytes values) }
@@ -149,8 +155,8 @@ abbrev pub insert_plan : List ℕ → List Value → Planning Reply
 insert_plan name values =
     table_of name >>= (λ f. refuse (first_refusal (insert_refusals f.1 values))
     >> (entry_under mode.S f.0 (group_of (key_of f.1 values)) >>= (λ entry. some_or reply.NoArea entry
-    >>= (λ e. each (row_at mode.X f.0 (key_of f.1 values)) (route e) >>= (λ rows.
-    refuse (first_refusal (insert_refusals (with_lying f.1 (lying_rows (all_of rows))) values))
+    >>= (λ e. walking mode.X f.0 (key_of f.1 values) (route e) [] >>= (λ rows.
+    refuse (first_refusal (insert_refusals (with_lying f.1 (lying_rows rows)) values))
     >> (writes (putting (place_in (target e) f.0 (key_of f.1 values)) values ∷ []) >> pure reply.Inserted))))))
 
 abbrev pub lock_plan : List ℕ → Bool → Planning Reply
@@ -158,4 +164,4 @@ lock_plan name exclusive =
     let m : Mode = if exclusive then mode.X else mode.S in
     table_of name >>= (λ f. lock ds (path.Group (dictionary_space entries_space) f.0) mode.S
     >> (scan_group ds (dictionary_space entries_space) f.0 >>= (λ entries.
-    each (λ area. lock (node_of_area area) (path.Whole (space_in area f.0)) m) (areas_of_routes entries) >> pure reply.Locked)))
+    locking m f.0 (areas_of_routes entries) >> pure reply.Locked)))

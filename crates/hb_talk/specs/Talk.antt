@@ -157,8 +157,3 @@ scan_group node space group = λ u. expect the_rows node (request.ScanGroup (the
 
 abbrev pub write : ℕ → Change → Planning (Unit {0})
 write node change = enlisted node >> (λ u. expect done node (request.Write (the_tx u) change) u)
-
--- one plan for each item
-abbrev pub each : {A B : Type 0} → (A → Planning B) → List A → Planning (List B)
-each f [] = pure []
-each f (x ∷ xs) = f x >>= (λ y. each f xs >>= (λ ys. pure (y ∷ ys)))
