@@ -48,12 +48,12 @@ still : (t tx : ℕ) (xs : List ℕ) → Has (λ x. x ≡ tx) (without_active t 
 still t tx [] h = h
 still t tx (x ∷ xs) h =
     by_test (x == t)
-    (λ e. inr (still t tx xs (rw e at h)))
-    (λ f. front (rw f at h))
+    (λ e. let k : Has (λ y. y ≡ tx) (without_active t xs) = rw e at h in inr (still t tx xs k))
+    (λ f. let k : Has (λ y. y ≡ tx) (x ∷ without_active t xs) = rw f at h in front x tx (without_active t xs) xs (still t tx xs) k)
   where
-    front : Has (λ y. y ≡ tx) (x ∷ without_active t xs) → Has (λ y. y ≡ tx) (x ∷ xs)
-    front (inl e) = inl e
-    front (inr k) = inr (still t tx xs k)
+    front : (x tx : ℕ) (ys zs : List ℕ) → (Has (λ y. y ≡ tx) ys → Has (λ y. y ≡ tx) zs) → Has (λ y. y ≡ tx) (x ∷ ys) → Has (λ y. y ≡ tx) (x ∷ zs)
+    front x tx ys zs f (inl e) = inl e
+    front x tx ys zs f (inr k) = inr (f k)
 
 grown : (k : CState) (tx : ℕ) (i : LogItem) → Each (λ (d : Decided). d.tx ≢ tx) (decisions (i ∷ [])) → Stays k tx → Stays (record k { log = k.log ++ i ∷ [] }) tx
 grown k tx i e s =
