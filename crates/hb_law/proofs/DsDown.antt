@@ -1,6 +1,6 @@
 -- The premises of the law of composition hold of a run in which one session found ds down and rolled back.
-use Rattle.std.proofs.Common.{◌≡◌, ◌⊎◌, ℕ, zero, suc, ◌+◌, ◌<◌, ◌≤◌, false, true, List, [], ◌∷◌, ◌++◌, Some, None, refl, subst, arith, lit≤, lit<, inl, inr}
-use Rattle.std.specs.Prelude.{codes, slice_get, filter, IsTrue}
+use Rattle.std.proofs.Common.{◌≡◌, ◌⊎◌, ℕ, zero, suc, ◌+◌, false, List, [], ◌∷◌, ◌++◌, Some, None, refl, subst, arith, lit≤, lit<, inl, inr}
+use Rattle.std.specs.Prelude.{codes, slice_get, filter}
 use Rattle.hb_types.specs.declared.answer.Answer.TheVariants as answer
 use Rattle.hb_types.specs.declared.change.LogItem.{LogItem}
 use Rattle.hb_types.specs.declared.change.LogItem.TheVariants as item
@@ -8,7 +8,6 @@ use Rattle.hb_types.specs.declared.names.Owner.{Owner}
 use Rattle.hb_types.specs.declared.names.Tx.{Tx}
 use Rattle.hb_types.specs.declared.request.Request.TheVariants as request
 use Rattle.hb_types.specs.declared.trail.Call.{Call}
-use Rattle.hb_types.specs.declared.trail.TrailEntry.{TrailEntry}
 use Rattle.std.proofs.lemmas.Bool.{false≢true}
 use Rattle.hb_types.specs.Lists.{Each, IsIn}
 use Rattle.hb_types.specs.Records.{framed}
@@ -21,10 +20,10 @@ use Rattle.hb_model.specs.Faithful.{Faithful}
 use Rattle.hb_model.specs.Items.{Item, sql, tending}
 use Rattle.hb_model.specs.State.{nothing}
 use Rattle.hb_disks.specs.Disks.{written}
-use Rattle.hb_disks.specs.Images.{Images, Logs, HasItems, ReadAs}
+use Rattle.hb_disks.specs.Images.{Images, Logs, HasItems}
 use Rattle.hb_disks.specs.Logless.{empty_images, empty_logs, empty_server}
 use Rattle.hb_disks.proofs.Empty.{empty_stands_with, empty_items}
-use Rattle.hb_law.specs.Callers.{Obeys, MayEnlist, MayBeDecided, is_enlist, HasAskedAt}
+use Rattle.hb_law.specs.Callers.{Obeys, MayEnlist, MayBeDecided}
 use Rattle.hb_law.specs.Composition.{World, Together, NodesRan, CoordinatorRan, ServerRan, lists_of, AllObey, OperatorObeys, ShowsItems, shown_of}
 use Rattle.hb_law.specs.Coordinator as coordinator
 use Rattle.hb_law.specs.Histories.{Labelled, Merged, Trails, Shown, stands, entries_of, calls_at}

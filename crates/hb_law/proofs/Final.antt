@@ -1,10 +1,9 @@
 -- Outcomes are final: kept by each effect, so by each run.
-use Rattle.std.proofs.Common.{◌≡◌, ◌≢◌, ◌⊎◌, ℕ, ◌+◌, ◌≤◌, ◌<◌, true, false, max, List, [], ◌∷◌, ◌++◌, refl, sym, ◌∙◌, ap, subst, arith, append-nil, inl, inr}
+use Rattle.std.proofs.Common.{◌≡◌, ◌≢◌, ◌⊎◌, ℕ, ◌+◌, ◌≤◌, ◌<◌, true, false, max, List, [], ◌∷◌, ◌++◌, sym, subst, arith, inl, inr}
 use Rattle.std.specs.Prelude.{fold, Bool, ◌==◌}
 use Rattle.std.proofs.lemmas.List.Elements.{filter_map-append}
 use Rattle.hb_types.specs.declared.answer.Answer.TheVariants as answer
 use Rattle.hb_types.specs.declared.change.LogItem.{LogItem}
-use Rattle.hb_types.specs.declared.names.NodeName.{NodeName}
 use Rattle.hb_types.specs.declared.request.Request.TheVariants as request
 use Rattle.hb_types.specs.Lists.{Each, Has}
 use Rattle.hb_types.proofs.Ascending.{Each-append, Has-front}
@@ -12,8 +11,8 @@ use Rattle.hb_types.proofs.PutLaws.{by_test}
 use Rattle.hb_disks.specs.Says.{Decided, decisions, uptos, upto_in}
 use Rattle.hb_disks.specs.StandsFor.{greatest_upto}
 use Rattle.hb_disks.proofs.Fold.{decisions-append}
-use Rattle.hb_law.specs.Coordinator.{CState, CEffect, CTurns, CRun, Allowed, Steps, Causes, Right, RightIn, happens, reserved, begun, decided, ended, lost, came_up, IsActive, IsDecided, IsUndecided, without_active, ids_item, decision_item}
-use Rattle.hb_law.specs.Finality.{IsReserved, AbortedStays, DecidedStays, aborted_outcome, decided_outcome}
+use Rattle.hb_law.specs.Coordinator.{CState, CEffect, CRun, Allowed, Steps, RightIn, happens, reserved, begun, decided, ended, lost, came_up, IsActive, IsDecided, IsUndecided, without_active, ids_item, decision_item}
+use Rattle.hb_law.specs.Finality.{IsReserved, AbortedStays, DecidedStays, decided_outcome}
 use Rattle.hb_law.specs.Server.{Asked}
 
 -- ---- uptos of a log that grows

@@ -1,5 +1,5 @@
 -- When the decisions of the logs, run alone by their numbers, explain what was shown.
-use Rattle.std.specs.Prelude.{◌≡◌, ◌≢◌, ℕ, ℤ, ◌<◌, ◌≤◌, Bool, true, not, ◌⊎◌, IsTrue, List, [], ◌∷◌, ◌++◌, length, filter_map, Option, Some, None, MatchOption, slice_get, slice_set, ⊤}
+use Rattle.std.specs.Prelude.{◌≡◌, ◌≢◌, ℕ, ℤ, ◌<◌, ◌≤◌, Bool, not, ◌⊎◌, IsTrue, List, [], ◌∷◌, ◌++◌, length, filter_map, Option, Some, None, MatchOption, slice_get, slice_set, ⊤}
 use Rattle.std.specs.List.{list_any, zip}
 use Rattle.hb_types.specs.declared.entry.Entry.TheVariants.{At, Moving}
 use Rattle.hb_types.specs.declared.places.Place.{Place}

@@ -1,5 +1,5 @@
 -- What an Outcome was answered is final.
-use Rattle.std.specs.Prelude.{◌≡◌, ℕ, ◌+◌, ◌≤◌, List, ◌∷◌}
+use Rattle.std.specs.Prelude.{ℕ, ◌+◌, ◌≤◌, List, ◌∷◌}
 use Rattle.hb_types.specs.declared.answer.Answer.TheVariants as answer
 use Rattle.hb_types.specs.declared.request.Request.TheVariants as request
 use Rattle.hb_disks.specs.StandsFor.{greatest_upto}

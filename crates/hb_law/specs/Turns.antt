@@ -1,9 +1,8 @@
 -- Turns of pdrbal: what the calls and lines of a check, a batch and a finish are.
-use Rattle.std.specs.Prelude.{◌≡◌, ℕ, ◌≤◌, ℤ, Bool, true, false, not, IsTrue, List, [], ◌∷◌, count_by, filter_map, is_some, map, Option, Some, option_map}
+use Rattle.std.specs.Prelude.{◌≡◌, ℕ, ◌≤◌, Bool, true, false, not, IsTrue, List, count_by, filter_map, is_some, map, Some, option_map}
 use Rattle.std.specs.List.{list_any}
 use Rattle.hb_types.specs.declared.answer.Answer.TheVariants as answer
 use Rattle.hb_types.specs.declared.change.Stored.{Stored}
-use Rattle.hb_types.specs.declared.entry.Entry.{Entry}
 use Rattle.hb_types.specs.declared.names.Tx.{Tx}
 use Rattle.hb_types.specs.declared.request.Request.TheVariants as request
 use Rattle.hb_types.specs.declared.trail.Call.{Call}
