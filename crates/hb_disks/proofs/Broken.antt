@@ -12,7 +12,7 @@ use Rattle.hb_model.specs.System.{Sys}
 use Rattle.hb_disks.specs.Disks.{written}
 use Rattle.hb_disks.specs.Images.{Logs, decided}
 use Rattle.hb_disks.specs.Points.{Point, HasBase}
-use Rattle.hb_disks.specs.Says.{LocksFit}
+use Rattle.hb_disks.specs.LogRules.{LocksFit}
 use Rattle.hb_disks.specs.StandsFor.{HaveTheirOwn, AreReserved, AreDecisions, AllAgree}
 use Rattle.hb_disks.specs.WholeImage.{IsPointAt}
 use Rattle.hb_disks.proofs.Small.{vote, commit, decision, small_logs, small_state, a1_stored}

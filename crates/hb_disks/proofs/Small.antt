@@ -31,7 +31,7 @@ use Rattle.hb_disks.specs.Disks.{StandsFor, written}
 use Rattle.hb_disks.specs.Images.{Images, Logs, HasItems, family, decided}
 use Rattle.hb_disks.specs.Logless.{empty_server}
 use Rattle.hb_disks.specs.Points.{HasBase}
-use Rattle.hb_disks.specs.Says.{redo}
+use Rattle.hb_disks.specs.Redo.{redo}
 use Rattle.hb_disks.specs.StandsFor.{AreLogs, Agrees, StandsWith}
 use Rattle.hb_disks.proofs.Empty.{empty_items, empty_base}
 

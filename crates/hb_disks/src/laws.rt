@@ -6,7 +6,9 @@ ghost use Rattle.hb_types.specs.declared.change.LogItem.{LogItem};
 ghost use Rattle.hb_model.specs.State.{nothing};
 ghost use Rattle.hb_disks.specs.Disks.{StandsFor};
 ghost use Rattle.hb_disks.specs.Logless.{empty_images};
-ghost use Rattle.hb_disks.specs.Says.{Decided, held, ch, redo, after, LogOK, EndFits, LocksFit, IsBranchItem};
+ghost use Rattle.hb_disks.specs.Redo.{Decided, redo, after};
+ghost use Rattle.hb_disks.specs.Says.{held, ch};
+ghost use Rattle.hb_disks.specs.LogRules.{LogOK, EndFits, LocksFit, IsBranchItem};
 
 /// A decision more puts the changes of its branch onto what the others leave.
 pub fn held_grows()

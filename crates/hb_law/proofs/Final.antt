@@ -8,12 +8,13 @@ use Rattle.hb_types.specs.declared.request.Request.TheVariants as request
 use Rattle.hb_types.specs.Lists.{Each, Has}
 use Rattle.hb_types.proofs.Ascending.{Each-append, Has-front}
 use Rattle.hb_types.proofs.PutLaws.{by_test}
-use Rattle.hb_disks.specs.Says.{Decided, decisions, uptos, upto_in}
+use Rattle.hb_disks.specs.Redo.{Decided, upto_in}
+use Rattle.hb_disks.specs.Says.{decisions, uptos}
 use Rattle.hb_disks.specs.StandsFor.{greatest_upto}
 use Rattle.hb_disks.proofs.Fold.{decisions-append}
 use Rattle.hb_law.specs.Coordinator.{CState, CEffect, CRun, Allowed, Steps, RightIn, happens, reserved, begun, decided, ended, lost, came_up, IsActive, IsDecided, IsUndecided, without_active, ids_item, decision_item}
 use Rattle.hb_law.specs.Finality.{IsReserved, AbortedStays, DecidedStays, decided_outcome}
-use Rattle.hb_law.specs.Server.{Asked}
+use Rattle.hb_law.specs.ServerRuns.{Asked}
 
 -- ---- uptos of a log that grows
 

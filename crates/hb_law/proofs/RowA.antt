@@ -14,8 +14,12 @@ use Rattle.hb_types.specs.declared.answer.Answer.TheVariants as answer
 use Rattle.hb_types.specs.declared.request.Request.{Request}
 use Rattle.hb_types.specs.declared.request.Request.TheVariants as request
 use Rattle.hb_types.specs.Ladders.{ladder}
-use Rattle.hb_disks.specs.Says.{nothing, LocksAgree}
-use Rattle.hb_law.specs.Server.{SState, Branch, enlisted, written, prepared, committed, came_up, happens, after_all, grants, grant, write, IsBlocked, AreHolders, Asked, Turns, Run, stopped_at, IsUnended}
+use Rattle.hb_disks.specs.Redo.{nothing}
+use Rattle.hb_disks.specs.LogRules.{LocksAgree}
+use Rattle.hb_law.specs.Server.{SState, Branch, IsUnended}
+use Rattle.hb_law.specs.ServerEffects.{enlisted, written, prepared, committed, came_up, happens, after_all, grant, write}
+use Rattle.hb_law.specs.ServerCauses.{grants, IsBlocked, AreHolders}
+use Rattle.hb_law.specs.ServerRuns.{Asked, Turns, Run, stopped_at}
 use Rattle.hb_law.proofs.Locks.{IsLocked, Of, IsFit, run_locked}
 
 abbrev place : Place

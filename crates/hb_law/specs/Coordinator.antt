@@ -11,9 +11,10 @@ use Rattle.hb_types.specs.declared.request.Vote.{Vote}
 use Rattle.hb_types.specs.Lists.{Each, Has}
 use Rattle.hb_types.specs.Numbers.{greatest}
 use Rattle.hb_types.specs.Records.{record_length}
-use Rattle.hb_disks.specs.Says.{decisions, end_behind}
+use Rattle.hb_disks.specs.Says.{decisions}
+use Rattle.hb_disks.specs.LogPlaces.{end_behind}
 use Rattle.hb_disks.specs.StandsFor.{greatest_upto}
-use Rattle.hb_law.specs.Server.{Asked}
+use Rattle.hb_law.specs.ServerRuns.{Asked}
 
 -- the whole log, the next transaction, those begun and not ended since the last start, and whether it is up
 pub record CState : Type 0 where

@@ -16,7 +16,7 @@ use Rattle.hb_types.specs.declared.trail.TrailEntry.{TrailEntry}
 use Rattle.hb_types.specs.Modes.{compatible}
 use Rattle.hb_model.specs.declared.line.Line.{Line}
 use Rattle.hb_model.specs.declared.reply.Reply.TheVariants as reply
-use Rattle.hb_disks.specs.Says.{doubts}
+use Rattle.hb_disks.specs.Redo.{doubts}
 use Rattle.hb_types.specs.Lists.{Has}
 
 -- ---- edges

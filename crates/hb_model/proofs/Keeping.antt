@@ -11,7 +11,8 @@ use Rattle.hb_model.specs.declared.statement.Statement.{Statement}
 use Rattle.hb_model.specs.declared.statement.Statement.TheVariants as statement
 use Rattle.hb_model.specs.declared.table.Table.{Table}
 use Rattle.hb_model.specs.Define.{new_area, create_area, new_table, new_spread, create_table, create_table_refusals, create_area_refusals, add_area, spread_with}
-use Rattle.hb_model.specs.Does.{Effect, does, effect, settled, most_bytes, reads, unless, on_table, with_rows, rows_put, first_refusal, insert_in, select_in, update_in, delete_in, added_in}
+use Rattle.hb_model.specs.Refusals.{Effect, unless, first_refusal}
+use Rattle.hb_model.specs.Does.{does, effect, settled, most_bytes, reads, on_table, with_rows, rows_put, insert_in, select_in, update_in, delete_in, added_in}
 use Rattle.hb_model.specs.Kept.{NamesStay}
 use Rattle.hb_model.specs.Names.{back_end_named}
 use Rattle.hb_model.specs.State.{State, Area, Spread, area_named, spread_named, table_named}

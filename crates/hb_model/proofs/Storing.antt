@@ -19,7 +19,8 @@ use Rattle.hb_model.specs.declared.statement.What.TheVariants as what
 use Rattle.hb_model.specs.declared.reply.Reply.{Reply}
 use Rattle.hb_model.specs.declared.statement.What.{What}
 use Rattle.hb_model.specs.declared.table.Table.{Table}
-use Rattle.hb_model.specs.Does.{does, effect, settled, unless, reads, first_refusal, select_refusals, update_refusals, with_rows, change_size, removal_size}
+use Rattle.hb_model.specs.Does.{does, effect, settled, reads, with_rows}
+use Rattle.hb_model.specs.Refusals.{unless, first_refusal, select_refusals, update_refusals, change_size, removal_size}
 use Rattle.hb_model.specs.Kinds.{letters, number, kind_of, is_typed, names_in, names_in_pred}
 use Rattle.hb_model.specs.Rows.{point_key, chosen, chooses, shown, assigned, assigning_refusal, first_some}
 use Rattle.hb_model.specs.Values.{value_of, holds_at}

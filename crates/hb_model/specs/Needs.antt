@@ -14,7 +14,8 @@ use Rattle.hb_model.specs.declared.statement.Statement.{Statement}
 use Rattle.hb_model.specs.declared.statement.Statement.TheVariants as statement
 use Rattle.hb_model.specs.declared.statement.What.TheVariants as what
 use Rattle.hb_model.specs.Define.{create_table_refusals, add_area_refusals}
-use Rattle.hb_model.specs.Does.{does, effect, is_accepted, first_refusal, insert_refusals, select_refusals, update_refusals}
+use Rattle.hb_model.specs.Does.{does, effect, is_accepted}
+use Rattle.hb_model.specs.Refusals.{first_refusal, insert_refusals, select_refusals, update_refusals}
 use Rattle.hb_model.specs.Spots.{ds, areas_space, tables_space, members_space, entries_space, dictionary_space, entry_place, space_in, place_in, ascending}
 use Rattle.hb_model.specs.Rows.{key_of, point}
 use Rattle.hb_types.specs.Ladders.{ladder}

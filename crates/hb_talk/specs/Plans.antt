@@ -23,7 +23,8 @@ use Rattle.hb_model.specs.declared.statement.What.{What}
 use Rattle.hb_model.specs.declared.statement.What.TheVariants as what
 use Rattle.hb_model.specs.Spots.{ds, tables_space, entries_space, dictionary_space, entry_place, space_in, place_in, ascending}
 use Rattle.hb_model.specs.Told.{Found, table_among, entry_of}
-use Rattle.hb_model.specs.Does.{first_refusal, insert_refusals, select_refusals, update_refusals, most_bytes}
+use Rattle.hb_model.specs.Refusals.{first_refusal, insert_refusals, select_refusals, update_refusals}
+use Rattle.hb_model.specs.Does.{most_bytes}
 use Rattle.hb_model.specs.Rows.{key_of, point, chosen, chooses, shown, assigned, assigning_refusal, first_some}
 use Rattle.hb_talk.specs.Talk.{Planning, ◌>>=◌, ◌>>◌, pure, refused, refuse, lock, read, scan, scan_group, write}
 

@@ -16,7 +16,7 @@ use Rattle.hb_model.specs.declared.statement.Statement.{Statement}
 use Rattle.hb_model.specs.declared.statement.Statement.TheVariants as statement
 use Rattle.hb_model.specs.Define.{new_area, new_table, new_spread, create_area_refusals, create_table_refusals, add_area_refusals}
 use Rattle.hb_model.specs.Dictionary.{area_in, member_in, area_row, table_row, member_row, at_place, member_rows, entry_rows}
-use Rattle.hb_model.specs.Does.{first_refusal}
+use Rattle.hb_model.specs.Refusals.{first_refusal}
 use Rattle.hb_model.specs.Names.{back_end_named}
 use Rattle.hb_model.specs.Spots.{ds, dictionary_space, areas_space, tables_space, members_space, entries_space}
 use Rattle.hb_model.specs.Told.{Found, found_in, entry_of}
