@@ -57,17 +57,21 @@ is_giving_answer held reply.Given = held
 is_giving_answer held (reply.Waits edges) = not held
 is_giving_answer held r = not (is_passing r)
 
+-- this reply, for which NO MEMORY may stand
+abbrev pub IsReply : Reply → Line → Type 0
+IsReply r l = (l.reply ≡ r) ⊎ (l.reply ≡ reply.NoMemory)
+
 -- the line is the own answer of a script line of this number
 abbrev pub IsOwnAnswer : Names → Bool → ℕ → ScriptLine → Line → Type 0
-IsOwnAnswer names parallel n (Err byte) l = (l.reply ≡ reply.Syntax n byte) ⊎ (l.reply ≡ reply.NoMemory)
+IsOwnAnswer names parallel n (Err byte) l = IsReply (reply.Syntax n byte) l
 IsOwnAnswer names parallel n (Ok item.Blank) l = ⊤
 IsOwnAnswer names parallel n (Ok item.Barrier) l = ⊤
 IsOwnAnswer names parallel n (Ok (item.Give session w held)) l =
-    MatchBool (parallel && held) (l.reply ≡ reply.NotInParallel n) (IsOf names session l × IsTrue (is_giving_answer held l.reply))
+    MatchBool (parallel && held) (IsReply (reply.NotInParallel n) l) (IsOf names session l × IsTrue (is_giving_answer held l.reply))
 IsOwnAnswer names parallel n (Ok (item.Step session most)) l =
-    MatchBool parallel (l.reply ≡ reply.NotInParallel n) (IsOf names session l × IsTrue (is_step_answer l.reply))
+    MatchBool parallel (IsReply (reply.NotInParallel n) l) (IsOf names session l × IsTrue (is_step_answer l.reply))
 IsOwnAnswer names parallel n (Ok (item.Arm node area k)) l =
-    MatchBool parallel (l.reply ≡ reply.NotInParallel n) ((l.session ≡ None) × IsTrue (is_of_node l.reply))
+    MatchBool parallel (IsReply (reply.NotInParallel n) l) ((l.session ≡ None) × IsTrue (is_of_node l.reply))
 IsOwnAnswer names parallel n (Ok (item.Stop node)) l = (l.session ≡ None) × IsTrue (is_of_node l.reply)
 IsOwnAnswer names parallel n (Ok (item.Start node)) l = (l.session ≡ None) × IsTrue (is_of_node l.reply)
 IsOwnAnswer names parallel n (Ok (item.Sync node)) l = (l.session ≡ None) × IsTrue (is_of_node l.reply)
