@@ -251,8 +251,8 @@ low = record { effects = []; causes = refl; right = (inl (refl, refl), lit≤ tt
 commit2 : Turns s10 (asking (request.Commit t2 (number 6)) answer.Done) s11
 commit2 = record { effects = committed 2 6 ∷ []; causes = refl; right = tt; steps = ((5, inl (refl, refl), lit< tt), refl) }
 
-pub row_a : Run s0 asked s11
-row_a =
+pub worked_list : Run s0 asked s11
+worked_list =
     (s1, start, (s2, enlist1, (s3, enlist2, (s4, lock1, (s5, blocked, (s6, write1, (s7, prepare1, (s8, commit1, (s9, lock2, (s9, read2, (s10, prepare2, (s10, low, (s11, commit2, refl)))))))))))))
 
 -- a server that starts with no doubts has no locks
@@ -273,5 +273,5 @@ none_locked =
     nobody_fit b (inl h) = absurd h
     nobody_fit b (inr h) = absurd h
 
-pub row_a_locked : IsLocked s11
-row_a_locked = run_locked s0 asked s11 row_a none_locked
+pub worked_list_locked : IsLocked s11
+worked_list_locked = run_locked s0 asked s11 worked_list none_locked

@@ -139,6 +139,6 @@ begin3 =
       steps = ((lit< tt, lit≤ tt, lit≤ tt), ((refl, lit≤ tt), refl));
     }
 
-pub row_b : CRun k0 asked k8
-row_b =
+pub worked_list : CRun k0 asked k8
+worked_list =
     (k1, start, (k2, begin1, (k3, begin2, (k4, decide2, (k5, decide1, (k5, outcome1, (k6, stop, (k7, start_again, (k7, outcome2, (k7, outcome7, (k8, begin3, refl)))))))))))
