@@ -1,0 +1,4 @@
+pub mod ModeLaws
+pub mod GroupLaws
+pub mod Places
+pub mod RowLaws

@@ -1,0 +1,3 @@
+pub mod ModeTable
+pub mod Vectors
+pub mod RowOrder

@@ -1,0 +1,6 @@
+pub mod Finding
+pub mod Keeping
+pub mod Samples
+pub mod Defining
+pub mod Storing
+pub mod Transaction

@@ -1,0 +1,6 @@
+pub mod Talk
+pub mod Plans
+pub mod PlansDefine
+pub mod Ends
+pub mod Moves
+pub mod Sessions
