@@ -3,4 +3,5 @@ pub mod Keeping
 pub mod Samples
 pub mod Defining
 pub mod Storing
+pub mod Choosing
 pub mod Transaction

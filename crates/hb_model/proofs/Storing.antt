@@ -83,30 +83,30 @@ delete-all = refl
 
 -- ---- conditions
 
-abbrev key_is : ℕ → Pred
+abbrev pub key_is : ℕ → Pred
 key_is n = pred.Test op.Eq (expr.Name (codes "K")) (expr.Int (pos n))
 
-names-key : (n : ℕ) → names_in_pred (key_is n) ≡ codes "K" ∷ []
+pub names-key : (n : ℕ) → names_in_pred (key_is n) ≡ codes "K" ∷ []
 unfolding names_in_pred names_in
 names-key n = rw (fold_out-Pred, outs-Test) (rw (fold_out-Expr, outs-Name, fold_out-Expr, outs-Int) refl)
 
-typed-key : (n : ℕ) → is_typed columns (key_is n) ≡ true
+pub typed-key : (n : ℕ) → is_typed columns (key_is n) ≡ true
 unfolding is_typed kind_of
 typed-key n = rw (fold_out-Pred, outs-Test) (rw (fold_out-Expr, outs-Name, fold_out-Expr, outs-Int) refl)
 
-point-key : (n : ℕ) → point_key (codes "K") (key_is n) ≡ Some (pos n)
+pub point-key : (n : ℕ) → point_key (codes "K") (key_is n) ≡ Some (pos n)
 unfolding point_key
 point-key n = rw (fold_out-Pred, outs-Test) (rw (outs-Name, outs-Int) refl)
 
-holds-7 : holds_at columns (row 7 (codes "g")) (key_is 7) ≡ Some true
+pub holds-7 : holds_at columns (row 7 (codes "g")) (key_is 7) ≡ Some true
 unfolding holds_at value_of
 holds-7 = rw (fold_out-Pred, outs-Test) (rw (fold_out-Expr, outs-Name, fold_out-Expr, outs-Int) refl)
 
-abbrev the_table : Table
+abbrev pub the_table : Table
 the_table = record { name = codes "T"; columns = columns; key = 0; rows = row 5 (codes "e") ∷ row 7 (codes "g") ∷ [] }
 
 -- a statement is refused by the first of its refusals
-refused-select : (w : What) (p : Option Pred) (r : Reply) → first_refusal (select_refusals the_table w p) ≡ Some r
+pub refused-select : (w : What) (p : Option Pred) (r : Reply) → first_refusal (select_refusals the_table w p) ≡ Some r
     → reply_to sample (statement.Select w (codes "T") p) ≡ r
 unfolding does effect
 refused-select w p r e = ap (λ o. (settled sample 0 (unless o (reads sample (reply.Rows (shown the_table w (chosen the_table p)))))).reply) e
@@ -116,10 +116,10 @@ accepted-select : (w : What) (p : Option Pred) → first_refusal (select_refusal
 unfolding does effect
 accepted-select w p e = ap (λ o. (settled sample 0 (unless o (reads sample (reply.Rows (shown the_table w (chosen the_table p)))))).reply) e
 
-accepted-7 : first_refusal (select_refusals the_table what.All (Some (key_is 7))) ≡ None
+pub accepted-7 : first_refusal (select_refusals the_table what.All (Some (key_is 7))) ≡ None
 accepted-7 = rw (names-key 7, typed-key 7, point-key 7, holds-7) refl
 
-chosen-7 : chosen the_table (Some (key_is 7)) ≡ row 7 (codes "g") ∷ []
+pub chosen-7 : chosen the_table (Some (key_is 7)) ≡ row 7 (codes "g") ∷ []
 chosen-7 = rw (point-key 7, holds-7) refl
 
 select-point : reply_to sample (statement.Select what.All (codes "T") (Some (key_is 7))) ≡ reply.Rows (row 7 (codes "g") ∷ [])
@@ -131,30 +131,30 @@ select-overflow =
 
 -- ---- UPDATE
 
-abbrev setting : List ℕ → List ℕ → Set
+abbrev pub setting : List ℕ → List ℕ → Set
 setting name text = record { name = name; value = expr.Text text }
 
-names-text : (t : List ℕ) → names_in (expr.Text t) ≡ []
+pub names-text : (t : List ℕ) → names_in (expr.Text t) ≡ []
 unfolding names_in
 names-text t = rw (fold_out-Expr, outs-Text) refl
 
-kind-text : (t : List ℕ) → kind_of columns (expr.Text t) ≡ Some letters
+pub kind-text : (t : List ℕ) → kind_of columns (expr.Text t) ≡ Some letters
 unfolding kind_of
 kind-text t = rw (fold_out-Expr, outs-Text) refl
 
-value-text : (r : List Value) (t : List ℕ) → value_of columns r (expr.Text t) ≡ Some (value.Text t)
+pub value-text : (r : List Value) (t : List ℕ) → value_of columns r (expr.Text t) ≡ Some (value.Text t)
 unfolding value_of
 value-text r t = rw (fold_out-Expr, outs-Text) refl
 
 -- K + 2147483647 is too great at each row
-abbrev too_great : Expr
+abbrev pub too_great : Expr
 too_great = expr.Add (expr.Name (codes "K")) (expr.Int (pos 2147483647))
 
-value-too-great : value_of columns (row 5 (codes "e")) too_great ≡ None
+pub value-too-great : value_of columns (row 5 (codes "e")) too_great ≡ None
 unfolding value_of
 value-too-great = rw (fold_out-Expr, outs-Add, fold_out-Expr, outs-Name, fold_out-Expr, outs-Int) refl
 
-refused-update : (sets : List Set) (p : Option Pred) (r : Reply) → option_or (first_refusal (update_refusals the_table sets p)) (first_some (assigning_refusal the_table sets) (chosen the_table p)) ≡ Some r
+pub refused-update : (sets : List Set) (p : Option Pred) (r : Reply) → option_or (first_refusal (update_refusals the_table sets p)) (first_some (assigning_refusal the_table sets) (chosen the_table p)) ≡ Some r
     → reply_to sample (statement.Update (codes "T") sets p) ≡ r
 unfolding does effect
 refused-update sets p r e =
@@ -182,11 +182,11 @@ update-no-table : reply_to sample (statement.Update (codes "U") (setting (codes 
 unfolding does effect
 update-no-table = refl
 
-names-great : names_in too_great ≡ codes "K" ∷ []
+pub names-great : names_in too_great ≡ codes "K" ∷ []
 unfolding names_in
 names-great = rw (fold_out-Expr, outs-Add, fold_out-Expr, outs-Name, fold_out-Expr, outs-Int) refl
 
-kind-great : kind_of columns too_great ≡ Some number
+pub kind-great : kind_of columns too_great ≡ Some number
 unfolding kind_of
 kind-great = rw (fold_out-Expr, outs-Add, fold_out-Expr, outs-Name, fold_out-Expr, outs-Int) refl
 
@@ -200,7 +200,7 @@ update-overflow =
 
 -- ---- DELETE
 
-refused-delete : (p : Option Pred) (r : Reply) → first_refusal (select_refusals the_table what.All p) ≡ Some r
+pub refused-delete : (p : Option Pred) (r : Reply) → first_refusal (select_refusals the_table what.All p) ≡ Some r
     → reply_to sample (statement.Delete (codes "T") p) ≡ r
 unfolding does effect
 refused-delete p r e =
