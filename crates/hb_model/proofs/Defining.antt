@@ -77,3 +77,11 @@ add-area-rebalancing = refl
 add-area-too-many : reply_to full_table (statement.AddArea (codes "T") (codes "A9")) ≡ reply.TooMany
 unfolding does effect
 add-area-too-many = refl
+
+-- the limit of changes is passed
+too-much :
+    map (λ st. (does 2 sample 1048576 false st).reply)
+    (statement.CreateArea (codes "A3") (codes "bes1") ∷ statement.CreateTable (codes "U") columns (codes "K") (codes "A1" ∷ []) ∷ statement.AddArea (codes "T") (codes "A2") ∷ [])
+    ≡ reply.TooMuch ∷ reply.TooMuch ∷ reply.TooMuch ∷ []
+unfolding does effect
+too-much = refl

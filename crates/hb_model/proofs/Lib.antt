@@ -1,4 +1,5 @@
 pub mod Finding
+pub mod ByKey
 pub mod Keeping
 pub mod Samples
 pub mod Defining

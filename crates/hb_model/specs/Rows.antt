@@ -7,6 +7,7 @@ use Rattle.std.specs.Str.{bytes_eq}
 use Rattle.hb_types.specs.declared.value.Value.{Value}
 use Rattle.hb_types.specs.declared.value.Value.TheVariants as value
 use Rattle.hb_types.specs.declared.value.Column.{Column}
+use Rattle.hb_types.specs.Lists.{Ascends}
 use Rattle.hb_types.specs.Numbers.{is_integer}
 use Rattle.hb_model.specs.declared.table.Table.{Table}
 use Rattle.hb_model.specs.declared.reply.Reply.{Reply}
@@ -31,6 +32,10 @@ number_of (value.Text t) = pos 0
 -- the key of a row
 abbrev pub key_of : Table → List Value → ℤ
 key_of t row = unwrap_or (option_map number_of (slice_get row t.key)) (pos 0)
+
+-- rows stand by ascending key, one of each
+abbrev pub AreByKey : Table → List (List Value) → Type 0
+AreByKey t rows = Ascends (λ a b. int_cmp (key_of t a) (key_of t b)) rows
 
 -- the name of the key column
 abbrev pub key_name : Table → List ℕ

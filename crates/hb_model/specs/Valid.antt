@@ -1,7 +1,7 @@
 -- States that the system can have: names, limits, numbers, and how groups are spread.
 use Rattle.std.specs.Prelude.{◌≡◌, ◌≢◌, ℕ, ◌+◌, ◌-◌, ◌*◌, ◌/◌, ◌%◌, ◌≤◌, ◌<◌, ◌==◌, nat_le, Bool, false, ◌&&◌, ◌||◌, not, IsTrue, List, [], ◌∷◌, length, map, Contains, count_by, slice_get, Option, Some, IsSome, MatchOption}
 use Rattle.std.specs.List.{range_with_len, list_all}
-use Rattle.std.specs.Ordering.{nat_cmp, int_cmp}
+use Rattle.std.specs.Ordering.{nat_cmp}
 use Rattle.hb_types.specs.declared.entry.Entry.{Entry}
 use Rattle.hb_types.specs.declared.entry.Entry.TheVariants.{At, Moving}
 use Rattle.hb_types.specs.declared.value.Value.{Value}
@@ -13,7 +13,7 @@ use Rattle.hb_types.specs.Numbers.{is_integer}
 use Rattle.hb_model.specs.declared.table.Table.{Table}
 use Rattle.hb_model.specs.Define.{areas_of}
 use Rattle.hb_model.specs.Names.{text_cmp}
-use Rattle.hb_model.specs.Rows.{key_of}
+use Rattle.hb_model.specs.Rows.{AreByKey}
 use Rattle.hb_model.specs.State.{State, Area, Spread, table_named}
 use Rattle.std.specs.Str.{bytes_eq}
 
@@ -72,7 +72,7 @@ pub record IsTable (t : Table) : Type 0 where
   pub columns_named : Each (λ c. IsName c.name × (c.size ≤ 255)) t.columns
   pub columns_differ : AllApart (λ a b. bytes_eq a.name b.name) t.columns
   pub key_is_number : MatchOption (slice_get t.columns t.key) ⊥ (λ c. c.size ≡ 0)
-  pub rows_ascend : Ascends (λ a b. int_cmp (key_of t a) (key_of t b)) t.rows
+  pub rows_ascend : AreByKey t t.rows
   pub rows_fit : Each (FitsAll t.columns) t.rows
 
 -- ---- spreads
