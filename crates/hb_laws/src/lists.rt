@@ -1,9 +1,8 @@
 // Laws of ascending lists.
-ghost use Rattle.std.specs.Prelude.{◌≡◌, ℕ, List};
-ghost use Rattle.std.specs.Ordering.{nat_cmp};
+ghost use Rattle.std.specs.Prelude.{◌≡◌, List};
 ghost use Rattle.hb_types.specs.Lists.{Ascends, IsIn};
 
 /// Two strictly ascending lists with the same members are equal.
-pub fn same_members()
-    ensures { (xs ys : List ℕ) → Ascends nat_cmp xs → Ascends nat_cmp ys → ((n : ℕ) → IsIn n xs → IsIn n ys) → ((n : ℕ) → IsIn n ys → IsIn n xs) → xs ≡ ys }
+pub fn same_members<T: Ord>()
+    ensures { (xs ys : List T) → Ascends T.cmp xs → Ascends T.cmp ys → ((x : T) → IsIn x xs → IsIn x ys) → ((x : T) → IsIn x ys → IsIn x xs) → xs ≡ ys }
 {}
