@@ -6,16 +6,16 @@ use Rattle.hb_types.specs.declared.change.LogItem.{LogItem}
 use Rattle.hb_types.specs.declared.change.LogItem.TheVariants as item
 use Rattle.hb_types.specs.declared.change.Stored.{Stored}
 use Rattle.hb_types.specs.declared.lock.Mode.TheVariants as mode
-use Rattle.hb_types.specs.Lists.{Each, EachBehind}
 use Rattle.hb_model.specs.Spots.{place_in}
+use Rattle.hb_model.specs.State.{State}
 use Rattle.hb_model.specs.System.{Sys}
-use Rattle.hb_disks.specs.Disks.{written}
-use Rattle.hb_disks.specs.Images.{Logs, decided}
+use Rattle.hb_disks.specs.Disks.{StandsFor, written}
+use Rattle.hb_disks.specs.Images.{Images, Logs}
+use Rattle.hb_disks.specs.Logless.{empty_server}
 use Rattle.hb_disks.specs.Points.{Point, HasBase}
-use Rattle.hb_disks.specs.LogRules.{LocksFit}
-use Rattle.hb_disks.specs.StandsFor.{HaveTheirOwn, AreReserved, AreDecisions, AllAgree}
+use Rattle.hb_disks.specs.StandsFor.{HaveBases, StandsWith}
 use Rattle.hb_disks.specs.WholeImage.{IsPointAt}
-use Rattle.hb_disks.proofs.Small.{vote, commit, decision, small_logs, small_state, a1_stored}
+use Rattle.hb_disks.proofs.Small.{vote, commit, decision, small_logs, small_images, two_records, small_state, a1_stored}
 
 abbrev with_fes : List LogItem → Logs
 with_fes fes = record small_logs { fes = fes }
@@ -23,17 +23,21 @@ with_fes fes = record small_logs { fes = fes }
 abbrev with_servers : List (List LogItem) → Logs
 with_servers servers = record small_logs { servers = servers }
 
+-- images whose logs have these items stand by them for no state
+abbrev StandForNothing : Logs → Type 0
+StandForNothing logs = (images : Images) (s : State) → StandsWith written images logs s → ⊥
+
 -- a back end's log has a record of the coordinator
-log_grammar_broken : HaveTheirOwn (with_servers ((vote mode.X ∷ commit 1 ∷ []) ∷ (item.Ids 2000 ∷ []) ∷ [])) → ⊥
-log_grammar_broken h = h.servers.1.0.0
+log_grammar_broken : StandForNothing (with_servers ((vote mode.X ∷ commit 1 ∷ []) ∷ (item.Ids 2000 ∷ []) ∷ []))
+log_grammar_broken images s h = h.are_logs.log_grammar.servers.1.0.0
 
 -- transaction 1 was not reserved
-numbers_broken : AreReserved (with_fes (decision 1 ∷ [])) → ⊥
-numbers_broken h = let low : 1 ≤ 0 = h.fes.0 in omega arith
+numbers_broken : StandForNothing (with_fes (decision 1 ∷ []))
+numbers_broken images s h = let low : 1 ≤ 0 = h.are_logs.transaction_numbers.fes.0 in omega arith
 
 -- a transaction is decided twice
-decisions_broken : AreDecisions (decided (with_fes (item.Ids 1000 ∷ decision 1 ∷ decision 2 ∷ []))) → ⊥
-decisions_broken h = h.once.0.0 refl
+decisions_broken : StandForNothing (with_fes (item.Ids 1000 ∷ decision 1 ∷ decision 2 ∷ []))
+decisions_broken images s h = h.are_logs.decisions.once.0.0 refl
 
 one_two : ◌≡◌ {A = ℕ} 1 2 → ⊥
 one_two e = omega arith
@@ -42,16 +46,16 @@ seven_zero : ◌≡◌ {A = ℕ} 7 0 → ⊥
 seven_zero e = omega arith
 
 -- ds commits with another number than the decision's
-votes_broken : AllAgree (with_servers ((vote mode.X ∷ commit 2 ∷ []) ∷ [] ∷ [])) → ⊥
-votes_broken h = wrong ((h.servers 0 (vote mode.X ∷ commit 2 ∷ []) refl).numbers.committed.0)
+votes_broken : StandForNothing (with_servers ((vote mode.X ∷ commit 2 ∷ []) ∷ [] ∷ []))
+votes_broken images s h = wrong ((h.are_logs.votes_and_outcomes.servers 0 (vote mode.X ∷ commit 2 ∷ []) refl).numbers.committed.0)
   where
     wrong : (((◌≡◌ {A = ℕ} 1 1) × (◌≡◌ {A = ℕ} 1 2)) ⊎ ⊥) → ⊥
     wrong (inl e) = one_two e.1
     wrong (inr e) = e
 
 -- the change of a Prepare lies under an S lock
-locks_broken : Each (EachBehind LocksFit []) ((vote mode.S ∷ commit 1 ∷ []) ∷ [] ∷ []) → ⊥
-locks_broken h = not_covered (h.0.0).covered.0
+locks_broken : StandForNothing (with_servers ((vote mode.S ∷ commit 1 ∷ []) ∷ [] ∷ []))
+locks_broken images s h = not_covered (h.are_logs.prepared_locks.0.0).covered.0
   where
     not_covered : IsTrue false ⊎ ⊥ → ⊥
     not_covered (inl e) = false≢true e
@@ -67,15 +71,30 @@ header_is header e = cc
 last_byte : (p : Point) (place : ℕ) → IsPointAt bad_area p 0 place → ⊥
 last_byte p place at = seven_zero (ap (λ bytes. slice_index_or bytes 63 0) at.headed)
 
-point_broken : (point : Option Point) → HasBase written bad_area (vote mode.X ∷ commit 1 ∷ []) point → ⊥
-point_broken None h = none 0 h.read
+not_a_point : (log : List LogItem) (point : Option Point) → HasBase written bad_area log point → ⊥
+not_a_point log None h = none 0 h.read
   where
     none : (n : ℕ) → Some n ≡ None → ⊥
     none n e = cc
-point_broken (Some p) h = with_header h.read.0 h.read.1 h.read.2 h.read.3
+not_a_point log (Some p) h = with_header h.read.0 h.read.1 h.read.2 h.read.3
   where
     with_header : (header place : ℕ) → Some 0 ≡ Some header → IsPointAt bad_area p header place → ⊥
     with_header header place e at = last_byte p place (subst (λ x. IsPointAt bad_area p x place) (sym (header_is header e)) at)
+
+abbrev bad_images : Images
+bad_images =
+    record {
+      fes = small_images.fes;
+      servers = record { log = two_records (vote mode.X) (commit 1); area = bad_area } ∷ empty_server ∷ [];
+    }
+
+-- the images stand for no state, whatever their logs have
+point_broken : (s : State) → StandsFor bad_images s → ⊥
+point_broken s h = by_logs h.0.servers h.1.points
+  where
+    by_logs : (logs : List (List LogItem)) → HaveBases written bad_images.servers logs → ⊥
+    by_logs [] h = absurd h
+    by_logs (log ∷ logs) h = not_a_point log h.0.0 h.0.1
 
 -- ds has a row in a space that is none of the dictionary's
 abbrev stray : Stored
