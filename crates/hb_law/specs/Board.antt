@@ -1,6 +1,6 @@
 -- The manager as its trail tells it: who waits for whom, and who has ended.
-use Rattle.std.specs.Prelude.{◌≡◌, ◌≢◌, ℕ, ◌/◌, ◌%◌, ◌^◌, ◌==◌, Bool, not, ◌&&◌, IsTrue, if◌then◌else◌, List, [], ◌∷◌, ◌++◌, map, filter, filter_map, find, Contains, All, Option, Some, None, option_map}
-use Rattle.std.specs.List.{list_any, range_with_len}
+use Rattle.std.specs.Prelude.{◌≡◌, ◌≢◌, ℕ, ◌==◌, Bool, not, ◌&&◌, IsTrue, if◌then◌else◌, List, [], ◌∷◌, ◌++◌, map, filter, filter_map, find, Contains, All, Option, Some, None, option_map}
+use Rattle.std.specs.List.{list_any}
 use Rattle.hb_types.specs.declared.lock.Holder.{Holder}
 use Rattle.hb_types.specs.declared.lock.Mode.{Mode}
 use Rattle.hb_types.specs.declared.names.NodeName.{NodeName}
@@ -13,6 +13,7 @@ use Rattle.hb_types.specs.declared.answer.Edge.{Edge}
 use Rattle.hb_types.specs.declared.request.Request.{Request}
 use Rattle.hb_types.specs.declared.request.Request.TheVariants as request
 use Rattle.hb_law.specs.Waits.{IsChain}
+use Rattle.hb_model.specs.NodeSets.{nodes_in}
 
 -- transactions entered with their owners; those whose End came; where a branch is left or was settled; and the kept edges
 pub record Board : Type 0 where
@@ -92,16 +93,12 @@ keeping b tx edges = record b { edges = filter (λ e. not (e.waiter.0 == tx.0)) 
 
 -- ---- ends
 
--- whether bit i is set in a set of nodes
-abbrev pub has_bit : ℕ → ℕ → Bool
-has_bit set i = set / 2 ^ i % 2 == 1
-
 abbrev pub pairs_with : ℕ → List ℕ → List (ℕ × ℕ)
 pairs_with tx nodes = map (λ n. (tx, n)) nodes
 
 -- the nodes of a set where the branch was not settled before
 abbrev pub left_nodes : Board → ℕ → ℕ → List ℕ
-left_nodes b tx set = filter (λ n. has_bit set n && not (has_pair b.settled tx n)) (range_with_len 0 11)
+left_nodes b tx set = filter (λ n. not (has_pair b.settled tx n)) (nodes_in set)
 
 -- only the first End of a transaction that was entered counts
 abbrev pub ending : Board → ℕ → ℕ → Board

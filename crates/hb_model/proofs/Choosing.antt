@@ -1,5 +1,5 @@
 -- Conditions: UPDATE and DELETE of the rows that one chooses, and conditions and assignments that are refused, computed.
-use Rattle.std.proofs.Common.{◌≡◌, ℕ, ℤ, pos, true, false, refl, ap, ◌∙◌, map, length, List, [], ◌∷◌, Some, None}
+use Rattle.std.proofs.Common.{◌≡◌, ℕ, ℤ, pos, true, false, refl, ap, map, length, List, [], ◌∷◌, Some, None}
 use Rattle.std.specs.Prelude.{codes, Option, sum_by, filter, not, ◌*◌, if◌then◌else◌}
 use Rattle.std.specs.Option.{option_or}
 use Rattle.hb_types.specs.declared.entry.Entry.TheVariants.{At}

@@ -1,5 +1,7 @@
 pub mod Finding
 pub mod ByKey
+pub mod DictionaryRows
+pub mod Nodes
 pub mod Keeping
 pub mod Samples
 pub mod Defining

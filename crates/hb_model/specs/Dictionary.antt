@@ -45,11 +45,20 @@ entry_rows t = map_from (λ group e. at_place entries_space t.number group (entr
 abbrev pub table_rows : State → Spread → List Stored
 table_rows s t = unwrap_or (option_map (λ u. at_place tables_space 0 t.number (table_row u) ∷ []) (table_named s t.name)) []
 
+abbrev pub area_rows : State → List Stored
+area_rows s = map (λ a. at_place areas_space 0 a.number (area_row a)) s.layout.areas
+
 -- the rows of ds in a state, by ascending place
 abbrev pub dictionary : State → List Stored
-dictionary s =
-    map (λ a. at_place areas_space 0 a.number (area_row a)) s.layout.areas ++ flat_map (table_rows s) s.layout.spreads
-    ++ flat_map member_rows s.layout.spreads ++ flat_map entry_rows s.layout.spreads
+dictionary s = area_rows s ++ flat_map (table_rows s) s.layout.spreads ++ flat_map member_rows s.layout.spreads ++ flat_map entry_rows s.layout.spreads
+
+-- those of them in one space
+abbrev pub rows_in_space : State → ℕ → List Stored
+rows_in_space s space =
+    if space == areas_space then area_rows s
+    else (if space == tables_space then flat_map (table_rows s) s.layout.spreads
+    else (if space == members_space then flat_map member_rows s.layout.spreads
+    else (if space == entries_space then flat_map entry_rows s.layout.spreads else [])))
 
 -- ---- reading rows
 

@@ -12,7 +12,7 @@ mod table;
 
 pub use condition::{Op, Pred};
 pub use expression::Expr;
-pub use laws::{names_stay, same_by_key};
+pub use laws::{dictionary_by_place, names_stay, same_by_key};
 pub use line::{Line, Work};
 pub use reply::Reply;
 pub use script::Item;

@@ -33,7 +33,7 @@ pub record Mover : Type 0 where
 -- ---- a transaction's beginning
 
 abbrev pub fresh : ℕ → Use
-fresh tx = record { tx = tx; used = []; locks = 0; bytes = 0 }
+fresh tx = record { tx = tx; used = 0; locks = 0; bytes = 0 }
 
 -- Begin at fes1, Enter at mgr; what follows gets the transaction, or a refusal
 abbrev pub opened : {R : Type 0} → Owner → (Result Use Reply → Talk R) → Talk R
@@ -44,7 +44,7 @@ opened {R} owner k = asks fes1 (request.Begin owner) begun
     entered tx a = rolling_back_to (fresh tx.0) a
       where
         rolling_back_to : Use → Answer → Talk R
-        rolling_back_to u a = going_on (λ r. k (Err r)) (rolling_back u [] (refusal_of mgr a))
+        rolling_back_to u a = going_on (λ r. k (Err r)) (rolling_back u 0 (refusal_of mgr a))
 
     begun : Answer → Talk R
     begun (answer.Begun tx) = asks mgr (request.Enter tx owner) (entered tx)
@@ -121,7 +121,7 @@ after_commit next (reply.Moved rows group number) = next (if rows == 0 then [] e
 after_commit next r = over r
 
 abbrev pub rolled : Use → Turned → Talk Turned
-rolled u t = going_on (λ r. says t) (rolling_back u [] reply.RolledBack)
+rolled u t = going_on (λ r. says t) (rolling_back u 0 reply.RolledBack)
 
 abbrev pub batch_ends : Owner → Hint → Result (Option ℕ) Reply → Use → Talk Turned
 batch_ends owner h (Ok (Some n)) u = going_on (λ r. says (after_commit again r)) (committing owner u (λ number. reply.Moved n h.group number))
@@ -164,7 +164,7 @@ check_reply hints r = Err r
 
 abbrev pub check_ends : Owner → Result (List Hint) Reply → Use → Talk Checked
 check_ends owner (Ok hints) u = going_on (λ r. says (check_reply hints r)) (committing owner u reply.Complete)
-check_ends owner (Err r) u = going_on (λ s. says (Err r)) (rolling_back u [] r)
+check_ends owner (Err r) u = going_on (λ s. says (Err r)) (rolling_back u 0 r)
 
 abbrev pub check_with : Owner → List ℕ → Result Use Reply → Talk Checked
 check_with owner name (Err r) = says (Err r)

@@ -1,6 +1,5 @@
 -- Plans of requests: what a caller asks, one request after another, by the answers that it gets.
-use Rattle.std.specs.Prelude.{ℕ, ◌+◌, ◌==◌, nat_le, Bool, true, false, not, if◌then◌else◌, List, [], ◌∷◌, ◌++◌, Option, Some, None, Result, Ok, Err, IsTrue}
-use Rattle.std.specs.List.{list_any}
+use Rattle.std.specs.Prelude.{ℕ, ◌+◌, nat_le, Bool, true, false, not, if◌then◌else◌, List, [], ◌∷◌, ◌++◌, Option, Some, None, Result, Ok, Err, IsTrue}
 use Rattle.hb_types.specs.declared.change.Stored.{Stored}
 use Rattle.hb_types.specs.declared.change.Change.{Change}
 use Rattle.hb_types.specs.declared.lock.Holder.{Holder}
@@ -17,6 +16,7 @@ use Rattle.hb_types.specs.declared.request.Request.{Request}
 use Rattle.hb_types.specs.declared.request.Request.TheVariants as request
 use Rattle.hb_model.specs.Answers.{call}
 use Rattle.hb_model.specs.Needs.{most_locks}
+use Rattle.hb_model.specs.NodeSets.{has_node, with_node}
 use Rattle.hb_model.specs.declared.reply.Reply.{Reply}
 use Rattle.hb_model.specs.declared.reply.Reply.TheVariants as reply
 
@@ -69,11 +69,11 @@ pub data Follows {R : Type 0} : Bool → Talk R → List Call → R → Type 0 w
 abbrev pub Begins : {R : Type 0} → Talk R → List Call → Type 0
 Begins {R} t cs = (more : List Call) × (r : R) × Follows false t (cs ++ more) r
 
--- ---- planning: a talk that knows its transaction, the nodes that it uses and the locks that it was granted, and may be refused
+-- ---- planning: a talk that knows its transaction, the set of nodes that it uses and the locks that it was granted, and may be refused
 
 pub record Use : Type 0 where
   pub tx : ℕ
-  pub used : List ℕ
+  pub used : ℕ
   pub locks : ℕ
   pub bytes : ℕ
 
@@ -139,8 +139,8 @@ the_tx u = record { 0 = u.tx }
 -- Enlist, before the first other branch request at a node
 abbrev pub enlisted : ℕ → Planning (Unit {0})
 enlisted node = λ u.
-    if list_any (λ n. n == node) u.used then says (Ok tt, u)
-    else expect done node (request.Enlist (the_tx u)) (record u { used = node ∷ u.used })
+    if has_node u.used node then says (Ok tt, u)
+    else expect done node (request.Enlist (the_tx u)) (record u { used = with_node u.used node })
 
 abbrev pub lock : ℕ → Path → Mode → Planning (Unit {0})
 lock node p m = enlisted node >>
