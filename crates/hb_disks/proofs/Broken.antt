@@ -1,11 +1,18 @@
 -- Eight ways in which the small disks break one rule each.
-use Rattle.std.proofs.Common.{◌≡◌, ◌⊎◌, ℕ, ◌≤◌, false, List, [], ◌∷◌, ◌++◌, Some, None, refl, ap, sym, pos, arith, inl, inr, subst}
+use Rattle.std.proofs.Common.{◌≡◌, ◌⊎◌, ℕ, ◌≤◌, false, List, [], ◌∷◌, ◌++◌, Some, None, refl, ap, sym, ◌∙◌, pos, arith, inl, inr, subst}
 use Rattle.std.specs.Prelude.{Option, IsTrue, slice_index_or, replicate}
 use Rattle.std.proofs.lemmas.Bool.{false≢true}
+use Rattle.hb_types.specs.declared.change.Change.{Change}
 use Rattle.hb_types.specs.declared.change.LogItem.{LogItem}
 use Rattle.hb_types.specs.declared.change.LogItem.TheVariants as item
 use Rattle.hb_types.specs.declared.change.Stored.{Stored}
 use Rattle.hb_types.specs.declared.lock.Mode.TheVariants as mode
+use Rattle.hb_types.specs.declared.places.Path.TheVariants as path
+use Rattle.hb_types.specs.declared.places.Place.{Place}
+use Rattle.hb_types.specs.declared.value.Value.TheVariants as value
+use Rattle.hb_types.specs.Rows.{row_bytes}
+use Rattle.hb_model.proofs.DictionaryRows.{by_space, table_place, table_stands}
+use Rattle.hb_model.specs.Dictionary.{area_row}
 use Rattle.hb_model.specs.Spots.{place_in}
 use Rattle.hb_model.specs.State.{State}
 use Rattle.hb_model.specs.System.{Sys}
@@ -15,7 +22,7 @@ use Rattle.hb_disks.specs.Logless.{empty_server}
 use Rattle.hb_disks.specs.Points.{Point, HasBase}
 use Rattle.hb_disks.specs.StandsFor.{HaveBases, StandsWith}
 use Rattle.hb_disks.specs.WholeImage.{IsPointAt}
-use Rattle.hb_disks.proofs.Small.{vote, commit, decision, small_logs, small_images, two_records, small_state, a1_stored}
+use Rattle.hb_disks.proofs.Small.{tx, number, vote, commit, decision, areas_locked, a1, a1_change, small_logs, small_images, two_records}
 
 abbrev with_fes : List LogItem → Logs
 with_fes fes = record small_logs { fes = fes }
@@ -97,18 +104,42 @@ point_broken s h = by_logs h.0.servers h.1.points
     by_logs (log ∷ logs) h = not_a_point log h.0.0 h.0.1
 
 -- ds has a row in a space that is none of the dictionary's
-abbrev stray : Stored
-stray = record { place = place_in 0 5 (pos 1); row = [] }
+abbrev stray_place : Place
+stray_place = place_in 0 5 (pos 1)
 
-dictionary_broken : Sys 1 ((a1_stored ∷ stray ∷ []) ∷ [] ∷ []) small_state → ⊥
-dictionary_broken h = some_none stray.row (h.dictionary_rows stray.place)
-  where
-    some_none : (row : List ℕ) → Some row ≡ None → ⊥
-    some_none row e = cc
+abbrev stray_change : Change
+stray_change = record { place = stray_place; row = Some (row_bytes (area_row a1)) }
 
--- the back end has a row of a table that is not there
-abbrev lost_row : Stored
-lost_row = record { place = place_in 257 1 (pos 5); row = [] }
+abbrev stray_vote : LogItem
+stray_vote =
+    item.Prepare (tx 1) (number 0) (areas_locked mode.X ++ record { path = path.Whole stray_place.space; mode = mode.X } ∷ []) (a1_change ∷ stray_change ∷ [])
 
-rows_broken : Sys 1 ((a1_stored ∷ []) ∷ (lost_row ∷ []) ∷ []) small_state → ⊥
-rows_broken h = h.of_tables 2 lost_row.place [] (omega arith) refl
+some_none : (row : List ℕ) → Some row ≡ None → ⊥
+some_none row e = cc
+
+dictionary_broken : StandForNothing (with_servers ((stray_vote ∷ commit 1 ∷ []) ∷ [] ∷ []))
+dictionary_broken images s h = some_none (row_bytes (area_row a1)) (h.system.dictionary_rows stray_place ∙ by_space s stray_place)
+
+-- bes1 has a row of a table that is not there
+abbrev lost_place : Place
+lost_place = place_in 257 1 (pos 5)
+
+abbrev lost_row : List ℕ
+lost_row = row_bytes (value.Int (pos 5) ∷ [])
+
+abbrev lost_vote : LogItem
+lost_vote =
+    item.Prepare (tx 1) (number 0) (record { path = path.Whole lost_place.space; mode = mode.X } ∷ []) (record { place = lost_place; row = Some lost_row } ∷ [])
+
+abbrev lost_logs : Logs
+lost_logs =
+    record {
+      fes = item.Ids 1000 ∷ item.Decision (tx 1) (number 1) (record { 0 = 1 } ∷ record { 0 = 2 } ∷ []) ∷ [];
+      servers = (vote mode.X ∷ commit 1 ∷ []) ∷ (lost_vote ∷ commit 1 ∷ []) ∷ [];
+    }
+
+-- ds has no row of a table, but the state has the table with its number
+rows_broken : StandForNothing lost_logs
+rows_broken images s h =
+    table_stands s 1 s.layout.spreads (h.system.of_tables 2 lost_place lost_row (omega arith) refl) h.system.state.spreads
+    (sym (h.system.dictionary_rows (table_place 1) ∙ by_space s (table_place 1)))

@@ -1,14 +1,15 @@
 -- What stands at a place of the dictionary, by the space of the place and by number.
 use Rattle.std.proofs.Common.{◌≡◌, ◌≢◌, ◌⊎◌, inl, inr, ℕ, ◌+◌, pos, List, [], ◌∷◌, ◌++◌, Option, Some, None, Bool, true, false, refl, subst, sym, ap, ◌∙◌, map}
-use Rattle.std.specs.Prelude.{◌==◌, ◌&&◌, if◌then◌else◌, flat_map, find, option_map, unwrap_or, nat_abs}
+use Rattle.std.specs.Prelude.{◌==◌, ◌&&◌, if◌then◌else◌, flat_map, find, option_map, unwrap_or, nat_abs, IsSome}
 use Rattle.std.specs.Option.{option_or}
 use Rattle.std.specs.Ordering.{int_eq}
 use Rattle.std.proofs.lemmas.Bool.Decides.{Decides-eqb, Decides-int_eq, eqb_tells}
+use Rattle.std.proofs.lemmas.Bool.{false≢true}
 use Rattle.hb_types.specs.declared.change.Stored.{Stored}
 use Rattle.hb_types.specs.declared.places.Place.{Place}
 use Rattle.hb_types.specs.declared.value.Value.{Value}
 use Rattle.hb_types.specs.Groups.{map_from}
-use Rattle.hb_types.specs.Lists.{Each}
+use Rattle.hb_types.specs.Lists.{Each, Has}
 use Rattle.hb_types.specs.Places.{same_place}
 use Rattle.hb_types.specs.Put.{lookup}
 use Rattle.hb_types.specs.Rows.{row_bytes}
@@ -17,6 +18,7 @@ use Rattle.hb_model.specs.declared.table.Table.{Table}
 use Rattle.hb_model.specs.Dictionary.{dictionary, rows_in_space, area_rows, table_rows, member_rows, entry_rows, at_place, area_row, table_row, member_row, entry_row}
 use Rattle.hb_model.specs.Spots.{dictionary_space, areas_space, tables_space, members_space, entries_space}
 use Rattle.hb_model.specs.State.{State, Area, Spread, table_named}
+use Rattle.hb_model.specs.Valid.{IsSpread}
 
 -- ---- rows one behind another
 
@@ -136,3 +138,34 @@ pub area_by_number : (s : State) (n : ℕ)
     → lookup (record { space = dictionary_space areas_space; group = 0; key = pos n }) (dictionary s)
     ≡ option_map (λ a. row_bytes (area_row a)) (find (λ a. n == a.number) s.layout.areas)
 area_by_number s n = by_space s (record { space = dictionary_space areas_space; group = 0; key = pos n }) ∙ area_found n s.layout.areas
+
+-- ---- tables
+
+abbrev pub table_place : ℕ → Place
+table_place n = record { space = dictionary_space tables_space; group = 0; key = pos n }
+
+some_none : {A : Type 0} (x : A) → Some x ≡ None → ⊥
+some_none x e = cc
+
+here : (n : ℕ) → same_place (table_place n) (table_place n) ≡ true
+here n = (Decides-int_eq (pos n) (pos n)).1 refl
+
+or_rest : (front back : Option (List ℕ)) → option_or front back ≡ None → back ≡ None
+or_rest None back e = e
+or_rest (Some row) back e = absurd (some_none row e)
+
+stands_first : (n m : ℕ) (o : Option Table) (rows : List Stored) → m ≡ n → IsSome o
+    → lookup (table_place n) (unwrap_or (option_map (λ u. at_place tables_space 0 m (table_row u) ∷ []) o) [] ++ rows) ≡ None → ⊥
+stands_first n m None rows e some none = absurd (false≢true some)
+stands_first n m (Some u) rows e some none =
+    let found : lookup (table_place n) (at_place tables_space 0 n (table_row u) ∷ rows) ≡ Some (row_bytes (table_row u)) = rw (here n) refl in
+    let same : lookup (table_place n) (at_place tables_space 0 n (table_row u) ∷ rows) ≡ None = subst (λ k. lookup (table_place n) (at_place tables_space 0 k (table_row u) ∷ rows) ≡ None) e none in
+    some_none (row_bytes (table_row u)) (sym found ∙ same)
+
+-- of a table that is there with its number, a row stands at the number
+pub table_stands : (s : State) (n : ℕ) (spreads : List Spread) → Has (λ t. t.number ≡ n) spreads → Each (IsSpread s) spreads
+    → lookup (table_place n) (flat_map (table_rows s) spreads) ≡ None → ⊥
+table_stands s n [] h each none = absurd h
+table_stands s n (t ∷ spreads) (inl e) each none = stands_first n t.number (table_named s t.name) (flat_map (table_rows s) spreads) e each.0.of_table none
+table_stands s n (t ∷ spreads) (inr h) each none =
+    table_stands s n spreads h each.1 (or_rest _ _ (sym (lookup_behind (table_place n) (table_rows s t) (flat_map (table_rows s) spreads)) ∙ none))
