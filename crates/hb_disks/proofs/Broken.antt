@@ -5,7 +5,6 @@ use Rattle.std.proofs.lemmas.Bool.{false≢true}
 use Rattle.hb_types.specs.declared.change.Change.{Change}
 use Rattle.hb_types.specs.declared.change.LogItem.{LogItem}
 use Rattle.hb_types.specs.declared.change.LogItem.TheVariants as item
-use Rattle.hb_types.specs.declared.change.Stored.{Stored}
 use Rattle.hb_types.specs.declared.lock.Mode.TheVariants as mode
 use Rattle.hb_types.specs.declared.places.Path.TheVariants as path
 use Rattle.hb_types.specs.declared.places.Place.{Place}
@@ -15,7 +14,6 @@ use Rattle.hb_model.proofs.DictionaryRows.{by_space, table_place, table_stands}
 use Rattle.hb_model.specs.Dictionary.{area_row}
 use Rattle.hb_model.specs.Spots.{place_in}
 use Rattle.hb_model.specs.State.{State}
-use Rattle.hb_model.specs.System.{Sys}
 use Rattle.hb_disks.specs.Disks.{StandsFor, written}
 use Rattle.hb_disks.specs.Images.{Images, Logs}
 use Rattle.hb_disks.specs.Logless.{empty_server}
