@@ -13,4 +13,5 @@ mod Ordered
 mod LockGrammar
 mod RecordGrammar
 mod PrepareGrammar
+mod Joined
 mod NumberAt
