@@ -4,5 +4,5 @@
 mod assignment;
 mod group;
 
-pub use assignment::{first_assignment, quota};
+pub use assignment::{first_assignment, quota, reassign};
 pub use group::{group_of, route};

@@ -1,0 +1,5 @@
+pub mod Folding
+pub mod Counting
+pub mod Quotas
+pub mod Seeing
+pub mod Reassigned
