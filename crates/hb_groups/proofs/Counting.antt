@@ -28,18 +28,18 @@ one_more c q = grind (arith, nat_tests)
 -- an entry stays while there is room
 kept_one : (area c q c' q' added : ℕ) (x : Entry) → (target x ≡ area → (c' ≡ c) × (q' ≡ q)) → bit (is_at area (reassigned c' q' added x)) + min c q ≡ min (c + bit (is_at area x)) q
 kept_one area c q c' q' added (At a) h = elim (eqb_tells a area) [
-    inl here ↦
-        let e = h here.1 in
-        let same : bit (ltb c' q') ≡ bit (ltb c q) = ap (λ (p : ℕ × ℕ). bit (ltb p.0 p.1)) (pair_eq c' q' c q e.0 e.1) in
-        let left = stays_here a area added (ltb c' q') here.0 in
-        let right : min (c + bit (eqb a area)) q ≡ min (c + 1) q = ap (λ b. min (c + bit b) q) here.0 in
-        let more = one_more c q in
-        ap (λ k. k + min c q) (left ∙ same) ∙ more ∙ sym right
+  | inl here ↦
+      let e = h here.1 in
+      let same : bit (ltb c' q') ≡ bit (ltb c q) = ap (λ (p : ℕ × ℕ). bit (ltb p.0 p.1)) (pair_eq c' q' c q e.0 e.1) in
+      let left = stays_here a area added (ltb c' q') here.0 in
+      let right : min (c + bit (eqb a area)) q ≡ min (c + 1) q = ap (λ b. min (c + bit b) q) here.0 in
+      let more = one_more c q in
+      ap (λ k. k + min c q) (left ∙ same) ∙ more ∙ sym right
   | inr there ↦
-        let left = not_here a area added (ltb c' q') there.0 in
-        let right : min (c + bit (eqb a area)) q ≡ min (c + 0) q = ap (λ b. min (c + bit b) q) there.0 in
-        omega (arith, left, right)
-  ]
+      let left = not_here a area added (ltb c' q') there.0 in
+      let right : min (c + bit (eqb a area)) q ≡ min (c + 0) q = ap (λ b. min (c + bit b) q) there.0 in
+      omega (arith, left, right)
+]
   where
     pair_eq : (a b c d : ℕ) → a ≡ c → b ≡ d → Path (ℕ × ℕ) (a, b) (c, d)
     pair_eq a b c d e f = ap (λ x. (x, b)) e ∙ ap (λ y. (c, y)) f
@@ -56,7 +56,7 @@ count_at-reassigned all areas added area n front (x ∷ xs) e l =
     let rest = count_at-reassigned all areas added area (n + 1) (front ++ x ∷ []) xs (e ∙ sym (append_assoc front (x ∷ []) xs)) (ap (λ k. k + 1) l ∙ sym (length-append front (x ∷ []))) in
     let before : take n all ≡ front = ap (take n) e ∙ ap (λ k. take k (front ++ x ∷ xs)) l ∙ take-append_seam front (x ∷ xs) in
     let one = kept_one area (count_at front area) kept (count_at (take n all) (target x)) (quota (position_of areas (target x)) (length areas + 1)) added x
-        (λ t. (ap (λ es. count_at es (target x)) before ∙ ap (count_at front) t, ap (λ a. quota (position_of areas a) (length areas + 1)) t)) in
+    (λ t. (ap (λ es. count_at es (target x)) before ∙ ap (count_at front) t, ap (λ a. quota (position_of areas a) (length areas + 1)) t)) in
     let pushed = sum_by_push (λ y. bit (is_at area y)) front x in
     let made = sum_by-cons (λ y. bit (is_at area y)) (f n x) (map_from f (n + 1) xs) in
     let room : min (count_at (front ++ x ∷ []) area) kept ≡ min (count_at front area + bit (is_at area x)) kept = ap (λ k. min k kept) pushed in
@@ -74,9 +74,9 @@ once : (areas : List ℕ) (b : ℕ) → IsDistinct nat_eq areas → Contains are
 unfolding IsDistinct
 once [] b d has = absurd (omega (arith, has.1))
 once (x ∷ xs) b d has = elim (eqb_tells b x) [
-    inl here ↦ omega (arith, sum_by-cons (λ a. bit (nat_eq b a)) x xs, ap (λ t. bit t) here.0, apart b x xs here.1 d.0)
+  | inl here ↦ omega (arith, sum_by-cons (λ a. bit (nat_eq b a)) x xs, ap (λ t. bit t) here.0, apart b x xs here.1 d.0)
   | inr there ↦ omega (arith, sum_by-cons (λ a. bit (nat_eq b a)) x xs, ap (λ t. bit t) there.0, once xs b d.1 (later has.0 has.1 has.2 there.1))
-  ]
+]
   where
     later : (k : ℕ) → k < length (x ∷ xs) → get_or (x ∷ xs) k b ≡ b → b ≢ x → Contains xs b
     later zero l e n = absurd (n (sym e))

@@ -3,3 +3,4 @@ pub mod Counting
 pub mod Quotas
 pub mod Seeing
 pub mod Reassigned
+pub mod Shares

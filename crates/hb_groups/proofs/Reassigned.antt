@@ -23,7 +23,7 @@ pub count-moving : (old : List Entry) (areas : List ℕ) (added : ℕ) → AllPa
 count-moving old areas added apart few full placed enough =
     let f = entry_after old areas added in
     let all = counts-all areas (reassign old areas added) (IsDistinct-from_AllPairs Decides-eqb areas apart)
-        (Each-map_from (IsPlaced areas) (IsSettled areas) f (λ n x. settled areas _ _ added x) 0 old (recursion_from_All (IsPlaced areas) old placed)) in
+    (Each-map_from (IsPlaced areas) (IsSettled areas) f (λ n x. settled areas _ _ added x) 0 old (recursion_from_All (IsPlaced areas) old placed)) in
     let stay = sum_by-places (count_at (reassign old areas added)) (λ i. quota i (length areas + 1)) 0 areas
-        (λ i l. kept_at old areas added i apart l (enough i l) ∙ ap (λ p. quota p (length areas + 1)) (omega arith)) in
+    (λ i l. kept_at old areas added i apart l (enough i l) ∙ ap (λ p. quota p (length areas + 1)) (omega arith)) in
     omega (arith, all, stay, sum-quotas_before (length areas) few, length-map_from f 0 old)

@@ -3,6 +3,11 @@
 
 mod assignment;
 mod group;
+mod laws;
 
 pub use assignment::{first_assignment, quota, reassign};
 pub use group::{group_of, route};
+pub use laws::{even_share_is_enough, first_entries_are_even, quota_is_even, quotas_sum};
+
+#[cfg(test)]
+mod tests;
