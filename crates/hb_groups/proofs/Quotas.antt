@@ -1,9 +1,9 @@
 -- The quotas of a number of areas sum to the number of groups.
-use Rattle.std.proofs.Common.{◌≡◌, ℕ, zero, suc, ◌+◌, ◌-◌, ◌<◌, ◌≤◌, List, [], ◌∷◌, length, get_or, sum, sum_by, map, refl, ap, sym, ◌∙◌, subst, arith, Bool, true, eqb}
+use Rattle.std.proofs.Common.{◌≡◌, ℕ, suc, ◌+◌, ◌-◌, ◌<◌, ◌≤◌, List, [], ◌∷◌, length, get_or, sum, sum_by, map, refl, ap, sym, ◌∙◌, subst, arith, Bool, true, eqb}
 use Rattle.std.proofs.lemmas.Bool.{eqb-true}
 use Rattle.std.proofs.lemmas.List.Sums.{sum_by-cons, AllPass-from_list_all}
 use Rattle.std.proofs.lemmas.List.Elements.{All-get_or}
-use Rattle.std.proofs.lemmas.List.FromFn.{get_or-range_with_len, length-range_with_len, sum_by-map-range_with_len_more}
+use Rattle.std.proofs.lemmas.List.FromFn.{get_or-range_with_len, sum_by-map-range_with_len_more}
 use Rattle.std.specs.List.{range_with_len, list_all}
 use Rattle.hb_types.specs.Groups.{quota}
 

@@ -1,11 +1,11 @@
 -- The counts of groups once an area was added.
-use Rattle.std.proofs.Common.{◌≡◌, ◌≢◌, ℕ, ◌+◌, ◌<◌, ◌≤◌, List, [], length, get_or, sum_by, refl, ap, sym, ◌∙◌, arith, count_by}
+use Rattle.std.proofs.Common.{◌≡◌, ◌≢◌, ℕ, ◌+◌, ◌<◌, ◌≤◌, List, [], length, get_or, refl, ap, ◌∙◌, arith, count_by}
 use Rattle.std.proofs.lemmas.List.Elements.{recursion_from_All}
 use Rattle.std.proofs.lemmas.Map.Made.{IsDistinct-from_AllPairs}
 use Rattle.std.proofs.lemmas.Bool.Decides.{Decides-eqb}
 use Rattle.std.specs.List.{All, AllPairs}
 use Rattle.hb_types.specs.declared.entry.Entry.{Entry}
-use Rattle.hb_types.specs.Groups.{is_moving, target, quota, reassign, entry_after, map_from, position_of}
+use Rattle.hb_types.specs.Groups.{is_moving, quota, reassign, entry_after, position_of}
 use Rattle.hb_groups.specs.Counts.{IsPlaced, count_at}
 use Rattle.hb_groups.proofs.Folding.{Each-map_from, length-map_from}
 use Rattle.hb_groups.proofs.Quotas.{sum-quotas_before, sum_by-places}

@@ -1,5 +1,5 @@
 -- What a walk over the entries has seen of each area.
-use Rattle.std.proofs.Common.{◌≡◌, ◌≢◌, ℕ, ◌+◌, ◌<◌, ◌≤◌, List, [], ◌∷◌, length, get_or, set, take, refl, ap, sym, ◌∙◌, subst, arith, Bool, true, false, cond, eqb, ltb, Some, None, unwrap_or, Contains, ◌⊎◌, inl, inr, get_or-set_same, get_or-set_other, length-take}
+use Rattle.std.proofs.Common.{◌≡◌, ◌≢◌, ℕ, ◌+◌, ◌<◌, ◌≤◌, List, length, get_or, set, take, ap, sym, ◌∙◌, arith, true, false, cond, eqb, Some, None, unwrap_or, Contains, inl, inr, get_or-set_same, get_or-set_other, length-take}
 use Rattle.std.proofs.lemmas.Bool.{eqb-true, eq-eqb, ne_eqb, eqb-false, lt-ltb, cases_lt, cases_eq}
 use Rattle.std.proofs.lemmas.List.Sums.{count_by_more_yes, count_by_more_no, passes_at_first, count_by-le-length, fails_before_first}
 use Rattle.std.proofs.lemmas.List.Elements.{Contains-get_or}

@@ -1,14 +1,14 @@
 -- Even shares: of quotas, and of first assignment.
-use Rattle.std.proofs.Common.{◌≡◌, ◌≢◌, ℕ, zero, suc, ◌+◌, ◌-◌, ◌*◌, ◌/◌, ◌<◌, ◌≤◌, min, max, List, [], ◌∷◌, length, get_or, map, count_by, refl, ap, sym, ◌∙◌, subst, arith, Bool, true, false, cond, eqb, ltb, leb, ◌&&◌, ◌⊎◌, inl, inr, Contains}
+use Rattle.std.proofs.Common.{◌≡◌, ◌≢◌, ℕ, zero, suc, ◌+◌, ◌-◌, ◌*◌, ◌/◌, ◌<◌, ◌≤◌, min, max, List, [], ◌∷◌, length, get_or, map, count_by, refl, ap, sym, ◌∙◌, subst, arith, Bool, true, false, cond, ltb, leb, ◌&&◌, ◌⊎◌, inl, inr}
 use Rattle.std.proofs.Math.Nat.{mul-le-mul_right}
-use Rattle.std.proofs.lemmas.Bool.{eqb-true, eq-eqb, ne_eqb, leb-true, ltb-true, and_parts, cases_lt}
+use Rattle.std.proofs.lemmas.Bool.{eq-eqb, ne_eqb, leb-true, ltb-true, and_parts, cases_lt}
 use Rattle.std.proofs.lemmas.List.Sums.{sum_by-cons, AllPass-from_list_all}
 use Rattle.std.proofs.lemmas.List.Elements.{All-get_or, All-map, Contains-get_or}
 use Rattle.std.proofs.lemmas.List.FromFn.{get_or-range_with_len, length-range_with_len}
 use Rattle.std.specs.List.{range_with_len, list_all, AllPairs, All}
 use Rattle.hb_types.specs.declared.entry.Entry.{Entry}
 use Rattle.hb_types.specs.declared.entry.Entry.TheVariants.{At}
-use Rattle.hb_types.specs.Groups.{quota, first_assignment, first_entries, is_at, groups}
+use Rattle.hb_types.specs.Groups.{quota, first_assignment, first_entries, is_at}
 use Rattle.hb_groups.specs.Counts.{IsPlaced, IsEvenShare, count_at}
 use Rattle.hb_groups.proofs.Counting.{bit}
 use Rattle.hb_groups.proofs.Seeing.{differ}

@@ -1,4 +1,4 @@
-use Rattle.std.proofs.Common.{rules, ◌≡◌, ◌≤◌, ◌<◌, ◌+◌, ℕ, List, length, get_or, set, take, drop, unwrap_or, ap, sym, subst, ◌∙◌, arith, Fits, refl, length-set, count_by}
+use Rattle.std.proofs.Common.{rules, ◌≡◌, ◌≤◌, List, get_or, set, unwrap_or, ap, sym, subst, ◌∙◌, arith, length-set, count_by}
 use Rattle.std.specs.List.{AllZip}
 use Rattle.hb_types.specs.declared.entry.Entry.{Entry}
 use Rattle.hb_types.specs.declared.entry.Entry.TheVariants.{At}

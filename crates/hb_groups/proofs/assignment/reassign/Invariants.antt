@@ -1,4 +1,4 @@
-use Rattle.std.proofs.Common.{◌≡◌, ◌<◌, ◌+◌, ℕ, length, count_by, get_or, take, drop, ◌++◌}
+use Rattle.std.proofs.Common.{◌≡◌, ◌<◌, ℕ, length, get_or, take, drop, ◌++◌}
 use Rattle.hb_types.specs.Groups.{entry_after, map_from}
 use Rattle.hb_groups.specs.Counts.{count_at}
 use Rattle.hb_groups.proofs.assignment.reassign.Given as goal
