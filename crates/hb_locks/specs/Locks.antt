@@ -4,12 +4,13 @@ use Rattle.std.specs.List.{list_all, filter_map}
 use Rattle.std.specs.Option.{option_map}
 use Rattle.std.specs.Map.{lookup}
 use Rattle.hb_types.specs.declared.lock.Holder.{Holder}
+use Rattle.std.specs.declared.cmp.Ordering.{Ordering}
 use Rattle.hb_types.specs.declared.lock.Held.{Held}
 use Rattle.hb_types.specs.declared.lock.Mode.{Mode}
 use Rattle.hb_types.specs.declared.names.Tx.{Tx}
 use Rattle.hb_types.specs.declared.places.Path.{Path}
 use Rattle.hb_types.specs.Modes.{compatible, covers, join}
-use Rattle.hb_types.specs.Places.{same_path, ancestors, intention}
+use Rattle.hb_types.specs.Places.{same_path, path_cmp, ancestors, intention}
 use Rattle.hb_types.specs.Lists.{Each}
 
 -- each path that is held, with its holders in the order of their first grants on it
@@ -87,3 +88,10 @@ held_on tx entry = option_map (held_as entry.0) (mode_of tx entry.1)
 -- the locks of a transaction, in the order of the paths
 abbrev pub locks_of : Tx → Locks → List Held
 locks_of tx locks = filter_map (held_on tx) locks
+
+-- the mode on a path in a list of locks
+abbrev pub mode_at : List Held → Path → Option Mode
+mode_at locks q = option_map (λ h. h.mode) (find (λ h. same_path q h.path) locks)
+
+abbrev pub lock_cmp : Held → Held → Ordering
+lock_cmp a b = path_cmp a.path b.path

@@ -9,3 +9,6 @@ mod take;
 
 pub use lock_table::LockTable;
 pub use take::Take;
+
+#[cfg(test)]
+mod tests;

@@ -1,6 +1,7 @@
 // The holders of each path, and the paths that are kept for each transaction.
 ghost use Rattle.std.specs.Prelude.{◌≡◌, ℕ, Bool, if◌then◌else◌, true, [], ◌++◌, IfOk, IsTrue, OnOk, OnErr};
-ghost use Rattle.hb_locks.specs.Locks.{holders_at, without, granted, blockers as blockers_in, Changes, Releases, locks_of, held_as};
+ghost use Rattle.hb_locks.specs.Locks.{holders_at, without, granted, blockers as blockers_in, Changes, Releases, locks_of, held_as, held_at, lock_cmp, mode_at};
+ghost use Rattle.hb_types.specs.Lists.{Ascends};
 ghost use Rattle.std.specs.Option.{option_map, option_to_list};
 ghost use Rattle.hb_types.specs.declared.lock.Held.{Held};
 ghost use Rattle.hb_locks.specs.Index.{IsSound, has_path, paths_at};
@@ -102,7 +103,9 @@ fn take_out(table: &mut Table, path: Path, tx: Tx) -> bool
 
 /// The locks of a transaction, ascending by path.
 pub(crate) fn locks_in(alloc: Global, table: &Table, tx: Tx) -> Result<Items<Held>, NoMemory>
-    ensures { IfOk result (λ locks. locks ≡ locks_of tx table.now.entries) }
+    ensures all { IfOk result (λ locks. locks ≡ locks_of tx table.now.entries) }
+    ensures ascending { IfOk result (Ascends lock_cmp) }
+    ensures each { IfOk result (λ locks. (q : Path) → mode_at locks q ≡ held_at table.now.entries tx q) }
 {
     let mut locks = Items::new(alloc);
     for (path, holders) in table.iter() {
