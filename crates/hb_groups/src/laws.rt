@@ -1,15 +1,7 @@
 // Laws on the counts of groups, which hold of the definitions alone.
-ghost use Rattle.std.specs.Prelude.{◌≡◌, ◌≢◌, ◌≤◌, ◌<◌, ◌+◌, ℕ, All, AllPairs, length, map, slice_index, sum};
-ghost use Rattle.std.specs.List.{range_with_len};
+ghost use Rattle.std.specs.Prelude.{◌≡◌, ◌≢◌, ◌≤◌, ◌<◌, ◌+◌, ℕ, All, AllPairs, length, slice_index};
 ghost use Rattle.hb_types.specs.Groups.{first_entries, quota as quota_of};
 ghost use Rattle.hb_groups.specs.Counts.{IsEvenShare, IsPlaced, count_at};
-
-/// The quotas of all areas sum to the number of groups.
-pub fn quotas_sum(areas: u16)
-    requires some { 1 ≤ areas }
-    requires few { areas ≤ 16 }
-    ensures { sum (map (λ i. quota_of i areas) (range_with_len 0 areas)) ≡ 1024 }
-{}
 
 /// Each quota is an even share.
 pub fn quota_is_even(position: u16, areas: u16)
