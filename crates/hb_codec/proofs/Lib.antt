@@ -1,4 +1,3 @@
-pub mod OneBody
 mod Calculus
 mod Digits
 mod Widths
