@@ -27,11 +27,11 @@ or_step : (b : Bool) (row : List ℕ) (whole front back : Option (List ℕ)) →
 or_step true row whole front back e = refl
 or_step false row whole front back e = e
 
-lookup_behind : (p : Place) (xs ys : List Stored) → lookup p (xs ++ ys) ≡ option_or (lookup p xs) (lookup p ys)
+pub lookup_behind : (p : Place) (xs ys : List Stored) → lookup p (xs ++ ys) ≡ option_or (lookup p xs) (lookup p ys)
 lookup_behind p [] ys = refl
 lookup_behind p (x ∷ xs) ys = or_step (same_place p x.place) x.row (lookup p (xs ++ ys)) (lookup p xs) (lookup p ys) (lookup_behind p xs ys)
 
-or_none : (o : Option (List ℕ)) → option_or o None ≡ o
+pub or_none : (o : Option (List ℕ)) → option_or o None ≡ o
 or_none None = refl
 or_none (Some x) = refl
 
@@ -114,7 +114,7 @@ found_step : (b : Bool) (a : Area) (l : Option (List ℕ)) (m : Option Area) →
 found_step true a l m e = refl
 found_step false a l m e = e
 
-not_true : (b : Bool) → (b ≡ true → ⊥) → b ≡ false
+pub not_true : (b : Bool) → (b ≡ true → ⊥) → b ≡ false
 not_true true f = absurd (f refl)
 not_true false f = refl
 

@@ -1,6 +1,7 @@
 pub mod Finding
 pub mod ByKey
 pub mod DictionaryRows
+pub mod NumberedRows
 pub mod Nodes
 pub mod Keeping
 pub mod Samples
