@@ -10,7 +10,8 @@ use Rattle.hb_types.specs.declared.places.Path.TheVariants as path
 use Rattle.hb_types.specs.declared.places.Place.{Place}
 use Rattle.hb_types.specs.declared.value.Value.TheVariants as value
 use Rattle.hb_types.specs.Rows.{row_bytes}
-use Rattle.hb_model.proofs.DictionaryRows.{by_space, table_place, table_stands}
+use Rattle.hb_model.proofs.DictionaryRows.{by_space, table_stands}
+use Rattle.hb_model.specs.ByNumber.{table_place}
 use Rattle.hb_model.specs.Dictionary.{area_row}
 use Rattle.hb_model.specs.Spots.{place_in}
 use Rattle.hb_model.specs.State.{State}

@@ -15,6 +15,7 @@ use Rattle.hb_types.specs.Put.{lookup}
 use Rattle.hb_types.specs.Rows.{row_bytes}
 use Rattle.hb_types.proofs.Ascending.{Each-append}
 use Rattle.hb_model.specs.declared.table.Table.{Table}
+use Rattle.hb_model.specs.ByNumber.{table_place}
 use Rattle.hb_model.specs.Dictionary.{dictionary, rows_in_space, area_rows, table_rows, member_rows, entry_rows, at_place, area_row, table_row, member_row, entry_row}
 use Rattle.hb_model.specs.Spots.{dictionary_space, areas_space, tables_space, members_space, entries_space}
 use Rattle.hb_model.specs.State.{State, Area, Spread, table_named}
@@ -140,9 +141,6 @@ pub area_by_number : (s : State) (n : ℕ)
 area_by_number s n = by_space s (record { space = dictionary_space areas_space; group = 0; key = pos n }) ∙ area_found n s.layout.areas
 
 -- ---- tables
-
-abbrev pub table_place : ℕ → Place
-table_place n = record { space = dictionary_space tables_space; group = 0; key = pos n }
 
 some_none : {A : Type 0} (x : A) → Some x ≡ None → ⊥
 some_none x e = cc
