@@ -3,3 +3,4 @@ pub mod Orders
 pub mod Table
 pub mod Entries
 pub mod Run
+pub mod Log
