@@ -6,10 +6,9 @@ ghost use Rattle.hb_edge.specs.Moments.{tick};
 use hb_edge::{Clock, Disk, Failed};
 use hb_types::Text;
 use std::fs::{File, OpenFile, OpenOptions};
-use std::io;
 use std::os::unix::fs::FileExt;
 use std::rt::Files;
-use std::str;
+use std::{io, str};
 
 /// A file of the current folder. Where it can't be opened or made, each call fails.
 #[derive(Drop)]

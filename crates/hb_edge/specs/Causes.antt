@@ -1,5 +1,9 @@
 -- When a device may answer that it failed.
-use Rattle.std.specs.Prelude.{ℕ, ◌+◌, ◌-◌, ◌^◌, ◌≤◌, min, Result, OnErr}
+use Rattle.std.specs.Prelude.{ℕ, ◌+◌, ◌-◌, ◌^◌, ◌≤◌, min, max, Result, OnErr}
+
+-- one more; a count stands at its type's end (said by max, so that it never falls can be derived)
+abbrev pub risen : ℕ → ℕ
+risen count = max count (min (count + 1) (2 ^ 64 - 1))
 
 -- the count rose, or stands at its last value
 abbrev pub Rose : ℕ → ℕ → Type 0

@@ -1,5 +1,9 @@
 pub mod Causes
+pub mod Fuses
+pub mod ImageLaws
 pub mod Images
 pub mod Moments
+pub mod Runs
 pub mod Stops
 pub mod Streams
+pub mod Wrapping

@@ -4,11 +4,15 @@
 mod clock;
 mod disk;
 mod failed;
+mod fused;
 mod sink;
 mod source;
+#[cfg(test)]
+mod tests;
 
 pub use clock::Clock;
 pub use disk::Disk;
 pub use failed::Failed;
+pub use fused::Fused;
 pub use sink::Sink;
 pub use source::Source;

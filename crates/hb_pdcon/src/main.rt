@@ -2,20 +2,20 @@
 #![tactic(auto)]
 
 use hb_adapt::{FileDisk, Stdin, Stdout};
-use hb_console::{Ended, console_run, status_word};
+use hb_console::{Ended, back_ends, console_run, status_word};
 use hb_edge::Clock;
 use hb_types::{NoMemory, Text};
 use std::alloc::Global;
 use std::fs::File;
 use std::process::ExitCode;
-use std::rt::{Env, Files, Print};
+use std::rt::{Env, Files};
 use std::{env, io};
 
 /// The disks' files, in the order in which they are handed over.
 const FILES: [&str; 1] = ["bes1.log"];
 
 /// The words after the program's name. Where the system has none to give, there are none.
-fn words<R: Env>(rt: &R, alloc: Global) -> Result<Vec<Text>, NoMemory> {
+fn words<R: Env + AllocGlobal>(rt: &R, alloc: Global) -> Result<Vec<Text>, NoMemory> {
     let mut words = Vec::new(alloc);
     if let Ok(args) = env::args(rt) {
         for word in args.skip(1) {
@@ -25,11 +25,48 @@ fn words<R: Env>(rt: &R, alloc: Global) -> Result<Vec<Text>, NoMemory> {
     Ok(words)
 }
 
-fn disks<R: Files<File = File>>(rt: &R, alloc: Global) -> Result<Vec<FileDisk>, NoMemory> {
+/// The disks of a command. Words that are none have no disks, so that a usage error makes no file.
+fn disks<R: Files<File = File>>(
+    rt: &R,
+    alloc: Global,
+    words: &[Text],
+) -> Result<Vec<FileDisk>, NoMemory> {
     let mut disks = Vec::new(alloc);
-    for name in FILES {
-        let name = Text::new(name.as_bytes().to_vec(alloc)?);
-        disks.push(FileDisk::new(rt, &name))?;
+    if back_ends(words) > 0 {
+        for name in FILES {
+            let name = Text::new(name.as_bytes().to_vec(alloc)?);
+            disks.push(FileDisk::new(rt, &name))?;
+        }
     }
     Ok(disks)
+}
+
+/// Runs the command that the words name, and answers its status.
+fn run(rt: &HostRuntime, alloc: Global) -> Result<u8, NoMemory> {
+    let words = words(rt, alloc)?;
+    let disks = disks(rt, alloc, words.as_slice())?;
+    let mut source = Stdin::new(rt.stdin());
+    let mut sink = Stdout::new(io::writer(rt));
+    let mut clock = Clock::new();
+    let Ended { status, disks: _ } = console_run(
+        alloc,
+        words.as_slice(),
+        &mut source,
+        &mut sink,
+        disks,
+        &mut clock,
+    );
+    Ok(status)
+}
+
+fn main(rt: HostRuntime) -> ExitCode {
+    let status = match run(&rt, rt.alloc()) {
+        Ok(status) => status,
+        Err(NoMemory) => 7,
+    };
+    if status != 0 {
+        let word = status_word(status);
+        let _ = eprintln!(rt; "hb_pdcon: {word}");
+    }
+    ExitCode::from(status)
 }

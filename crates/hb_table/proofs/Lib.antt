@@ -1,1 +1,8 @@
+pub mod OrderOf
+pub mod SplitLemmas
+pub mod NumeralLemmas
+pub mod OrderLemmas
+pub mod LineLemmas
+pub mod EntryBytes
+pub mod RowOrder
 mod LogExamples

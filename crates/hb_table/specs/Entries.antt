@@ -1,5 +1,5 @@
 -- The disk of one table: each entry is its key (4 bytes), a length (1) and the text.
-use Rattle.std.specs.Prelude.{◌≡◌, ℕ, ◌<◌, List, [], ◌∷◌, ◌++◌, length, ℤ, pos, negsuc, FitsSigned, false, codes, refl}
+use Rattle.std.specs.Prelude.{◌≡◌, ℕ, ◌<◌, List, [], ◌∷◌, ◌++◌, length, pos, negsuc, FitsSigned, false, codes, refl}
 use Rattle.std.specs.Int.{to_le_bytes, cast_unsigned, w32}
 use Rattle.std.specs.List.{flat_map}
 use Rattle.hb_table.specs.Table.{Entry, has_key}

@@ -1,0 +1,9 @@
+pub mod EntryBytes
+pub mod Rows
+pub mod MoreEntries
+pub mod Reading
+pub mod OrderReplies
+pub mod Replying
+pub mod Asking
+pub mod Running
+pub mod Ending

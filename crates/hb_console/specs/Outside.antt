@@ -1,0 +1,49 @@
+-- What is told of a source, a sink and a disk at one moment.
+use Rattle.std.specs.Prelude.{◌≡◌, ℕ, ◌≤◌, List, Option, is_some}
+use Rattle.hb_edge.specs.Causes.{Rose}
+use Rattle.hb_edge.specs.Images.{Image}
+use Rattle.hb_console.specs.declared.stop.Stop.{Stop}
+use Rattle.hb_console.specs.declared.stop.Stop.TheVariants.{Usage, Source, Sink, Disk, Damaged, Memory}
+
+-- how often each has failed
+pub record Faults : Type 0 where
+  pub source : ℕ
+  pub sink : ℕ
+  pub disk : ℕ
+
+-- the input that is left, the output so far, what the disk reads as, and what a stop leaves of it
+pub record Outside : Type 1 where
+  pub input : Option (List ℕ)
+  pub output : Option (List ℕ)
+  pub content : Option Image
+  pub left : ℕ → Image → Type 0
+  pub last : ℕ
+  pub faults : Faults
+
+-- by the meanings of the three traits
+abbrev pub seen : {S O D : Type 0} → (S → Option (List ℕ)) → (S → ℕ) → (O → Option (List ℕ)) → (O → ℕ) → (D → Option Image) → (D → ℕ → Image → Type 0) → (D → ℕ) → (D → ℕ) → S → O → D → Outside
+seen input source_faults output sink_faults content left last disk_faults source sink disk = record {
+  input = input source;
+  output = output sink;
+  content = content disk;
+  left = left disk;
+  last = last disk;
+  faults = record { source = source_faults source; sink = sink_faults sink; disk = disk_faults disk };
+}
+
+-- no count fell, and what told its bytes goes on to tell them
+pub record GoesOn (before after : Outside) : Type 0 where
+  pub source : before.faults.source ≤ after.faults.source
+  pub sink : before.faults.sink ≤ after.faults.sink
+  pub disk : before.faults.disk ≤ after.faults.disk
+  pub output : is_some after.output ≡ is_some before.output
+  pub content : is_some after.content ≡ is_some before.content
+
+-- why a run of orders may stop: by a device only where its count rose
+abbrev pub MayStop : Faults → Faults → Stop → Type 0
+MayStop before after Usage = ⊥
+MayStop before after Source = Rose before.source after.source
+MayStop before after Sink = Rose before.sink after.sink
+MayStop before after Disk = Rose before.disk after.disk
+MayStop before after Damaged = ⊥
+MayStop before after Memory = Unit {0}

@@ -1,0 +1,41 @@
+-- Why a command stops: its code, its word, and when it may come.
+use Rattle.std.specs.Prelude.{◌≡◌, ◌⊎◌, ℕ, ◌≤◌, List, Result, Ok, Err, IfErr, codes}
+use Rattle.hb_edge.specs.Causes.{Rose}
+use Rattle.hb_script.specs.declared.fault.ScriptFault.{ScriptFault}
+use Rattle.hb_script.specs.declared.fault.ScriptFault.TheVariants.{Source as FromSource, NoMemory}
+use Rattle.hb_console.specs.declared.stop.Stop.{Stop}
+use Rattle.hb_console.specs.declared.stop.Stop.TheVariants.{Usage, Source, Sink, Disk, Damaged, Memory}
+
+-- the exit status
+abbrev pub code_of : Stop → ℕ
+code_of Usage = 1
+code_of Source = 3
+code_of Sink = 4
+code_of Disk = 5
+code_of Damaged = 6
+code_of Memory = 7
+
+-- what a script's fault is to a command
+abbrev pub script_stop : ScriptFault → Stop
+script_stop FromSource = Source
+script_stop NoMemory = Memory
+
+-- 0 where the command came to its end
+abbrev pub status_of : Result (Unit {0}) Stop → ℕ
+status_of (Ok done) = 0
+status_of (Err stop) = code_of stop
+
+-- the word on standard error
+abbrev pub word_of : Stop → List ℕ
+word_of Usage = codes "usage"
+word_of Source = codes "source"
+word_of Sink = codes "sink"
+word_of Disk = codes "disk"
+word_of Damaged = codes "damaged"
+word_of Memory = codes "memory"
+
+-- a call that uses one device: its count of faults never falls, and the call stops by the device only where the count
+-- rose, and else for want of memory
+pub record StopsBy {T : Type 0} (device : Stop) (before now : ℕ) (result : Result T Stop) : Type 0 where
+  pub later : before ≤ now
+  pub cause : IfErr result (λ stop. ((stop ≡ device) × Rose before now) ⊎ (stop ≡ Memory))

@@ -1,0 +1,77 @@
+// The orders of a script, done one by one.
+ghost use Rattle.std.specs.Prelude.{◌≡◌, ◌+◌, ◌<◌, length, is_some, IfOk, IfErr, OnOk, OnErr, OnSome};
+ghost use Rattle.hb_edge.specs.Streams.{with_end, with_front, PutsPart};
+ghost use Rattle.hb_script.specs.Scripts.{NextOrder};
+ghost use Rattle.hb_console.specs.Outside.{seen};
+ghost use Rattle.hb_console.specs.Replies.{bytes_of};
+ghost use Rattle.hb_console.specs.Runs.{Runs};
+ghost use Rattle.hb_console.specs.Stops.{StopsBy};
+
+use crate::orders::serve;
+use crate::reply::Reply;
+use crate::{Stop, Table};
+use hb_edge::{Clock, Disk, Failed, Sink, Source};
+use hb_script::ScriptReader;
+use hb_table::Order;
+use std::alloc::Global;
+
+/// Puts a reply.
+pub(crate) fn put_reply<O: Sink>(sink: &mut O, clock: &mut Clock, reply: Reply) -> Result<(), Stop>
+    ensures all { OnOk result (O.held sink.new ≡ with_end (bytes_of reply) (O.held sink.old)) }
+    ensures part { OnErr result (PutsPart (O.held sink.old) (O.held sink.new) (bytes_of reply)) }
+    ensures told { is_some (O.held sink.new) ≡ is_some (O.held sink.old) }
+    ensures cause { StopsBy Stop.Sink (O.faults sink.old) (O.faults sink.new) result }
+{
+    match sink.put(clock, reply.as_slice()) {
+        Ok(()) => Ok(()),
+        Err(Failed) => Err(Stop::Sink),
+    }
+}
+
+/// The next order of the script, or none at its end.
+fn next_order<S: Source>(
+    alloc: Global,
+    reader: &mut ScriptReader,
+    source: &mut S,
+) -> Result<Option<Order>, Stop>
+    ensures next { IfOk result (λ found. NextOrder found (with_front reader.old (S.left source.old)) (with_front reader.new (S.left source.new))) }
+    ensures bound { IfOk result (λ found. OnSome found (length reader.new + S.bound source.new < length reader.old + S.bound source.old)) }
+    ensures cause { StopsBy Stop.Source (S.faults source.old) (S.faults source.new) result }
+{
+    match reader.next_order(alloc, source) {
+        Ok(found) => Ok(found),
+        Err(fault) => Err(Stop::from(fault)),
+    }
+}
+
+/// The number of the next line. There is none past the last u64.
+fn number_after(number: u64) -> Result<u64, Stop>
+    ensures next { IfOk result (λ n. n ≡ number + 1) }
+    ensures memory { IfErr result (λ stop. stop ≡ Stop.Memory) }
+{
+    number.checked_add(1).ok_or(Stop::Memory)
+}
+
+/// Does the orders of the source to its end, and says how many there were.
+pub(crate) fn run_orders<S: Source, O: Sink, D: Disk>(
+    alloc: Global,
+    table: &mut Table,
+    source: &mut S,
+    sink: &mut O,
+    disk: &mut D,
+    clock: &mut Clock,
+) -> Result<u64, Stop>
+    ensures { Runs table.old
+        (seen S.left S.faults O.held O.faults D.content D.left D.last D.faults source.old sink.old disk.old)
+        (seen S.left S.faults O.held O.faults D.content D.left D.last D.faults source.new sink.new disk.new)
+        result }
+{
+    let mut reader = ScriptReader::new(alloc)?;
+    let mut number: u64 = 0;
+    'script: while let Some(order) = next_order(alloc, &mut reader, source)? {
+        number = number_after(number)?;
+        let reply = serve(alloc, table, number, order, disk, clock)?;
+        put_reply(sink, clock, reply)?;
+    }
+    Ok(number)
+}

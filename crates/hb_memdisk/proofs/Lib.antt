@@ -1,0 +1,2 @@
+mod Patching
+mod Taking

@@ -1,0 +1,127 @@
+// The lines of a source, taken a piece at a time.
+ghost use Rattle.std.specs.Prelude.{◌≡◌, ◌+◌, ◌<◌, ◌≤◌, ◌++◌, [], length, take, drop, IfOk, IfSome, OnOk, OnSome};
+ghost use Rattle.hb_edge.specs.Causes.{HasCause};
+ghost use Rattle.hb_edge.specs.Streams.{with_front};
+ghost use Rattle.hb_script.specs.Parts.{TakesPart};
+ghost use Rattle.hb_script.specs.Scripts.{NextOrder, HasSourceCause};
+
+use crate::ScriptFault;
+use crate::cut::split_at_byte;
+use crate::front::{keep, kept_order};
+use hb_edge::{Failed, Source};
+use hb_table::Order;
+use hb_types::NoMemory;
+use std::alloc::Global;
+use std::marker::Model;
+
+const PIECE: usize = 4096;
+
+/// Reads a script from a source, a piece of at most 4,096 bytes at a time. Of a line it keeps at most 64 bytes: a
+/// longer one is in none of the forms.
+#[derive(Drop)]
+pub struct ScriptReader {
+    piece: Vec<u8>,
+    at: usize,
+    end: usize,
+}
+
+impl Model for ScriptReader {
+    ghost use Rattle.std.specs.Prelude.{List, ℕ, ◌-◌, ◌≤◌, ◌<◌, take, drop, length};
+
+    ghost Value = { List ℕ };
+
+    ghost view = { λ r. take (r.end - r.at) (drop r.at r.piece.items) };
+
+    ghost invariant = { λ r. (r.at ≤ r.end) × (r.end ≤ length r.piece.items) × (0 < length r.piece.items) };
+}
+
+impl ScriptReader {
+    pub fn new(alloc: Global) -> Result<ScriptReader, NoMemory>
+        ensures { IfOk result (λ reader. reader ≡ []) }
+    {
+        let piece = vec![in alloc; 0; PIECE]?;
+        Ok(ScriptReader {
+            piece,
+            at: 0,
+            end: 0,
+        })
+    }
+
+    fn unread(&self) -> &[u8]
+        ensures { result.now ≡ self.now }
+    {
+        &self.piece[self.at..self.end]
+    }
+
+    /// Goes on behind so many bytes.
+    fn pass(&mut self, count: usize)
+        requires { count ≤ length self.old }
+        ensures { self.new ≡ drop count self.old }
+    {
+        self.at += count;
+    }
+
+    /// Takes the next piece, once all bytes are read.
+    fn fill<S: Source>(&mut self, source: &mut S) -> Result<(), Failed>
+        ensures bytes { OnOk result (S.left source.old ≡ with_front self.new (S.left source.new)) }
+        ensures end { OnOk result (length self.new ≡ 0 → IfSome (S.left source.new) (λ rest. rest ≡ [])) }
+        ensures bound { OnOk result (length self.new + S.bound source.new ≡ S.bound source.old) }
+        ensures cause { HasCause (S.faults source.old) (S.faults source.new) result }
+    {
+        self.at = 0;
+        self.end = 0;
+        let count = source.take(self.piece.as_mut_slice())?;
+        self.end = count;
+        Ok(())
+    }
+
+    /// Passes what belongs to the line, and adds it to its front. Whether the line ends there.
+    fn take_part(&mut self, front: &mut Vec<u8>) -> Result<bool, NoMemory>
+        requires { length front.old.items ≤ 64 }
+        ensures { IfOk result (λ ends. TakesPart ends front.old.items front.new.items self.old self.new) }
+    {
+        let unread = self.unread();
+        match split_at_byte(unread, b'\n') {
+            Some((part, _)) => {
+                keep(front, part)?;
+                let count = part.len() + 1;
+                self.pass(count);
+                Ok(true)
+            }
+            None => {
+                keep(front, unread)?;
+                let count = unread.len();
+                self.pass(count);
+                Ok(false)
+            }
+        }
+    }
+
+    /// What the next line asks, or none where the script has ended. Behind a fault the place in the script is unknown.
+    pub fn next_order<S: Source>(
+        &mut self,
+        alloc: Global,
+        source: &mut S,
+    ) -> Result<Option<Order>, ScriptFault>
+        ensures next { IfOk result (λ found. NextOrder found (with_front self.old (S.left source.old)) (with_front self.new (S.left source.new))) }
+        ensures bound { IfOk result (λ found. OnSome found (length self.new + S.bound source.new < length self.old + S.bound source.old)) }
+        ensures cause { HasSourceCause (S.faults source.old) (S.faults source.new) result }
+    {
+        let mut front = Vec::new(alloc);
+        'pieces: loop {
+            if self.take_part(&mut front)? {
+                return Ok(Some(kept_order(alloc, &front)?));
+            }
+            match self.fill(source) {
+                Err(Failed) => return Err(ScriptFault::Source),
+                Ok(()) => {}
+            }
+            if self.unread().len() < 1 {
+                if front.len() < 1 {
+                    return Ok(None);
+                }
+                return Ok(Some(kept_order(alloc, &front)?));
+            }
+        }
+    }
+}

@@ -1,0 +1,31 @@
+// Laws about lines: what the lines of an input are, and that each line asks exactly one order.
+ghost use Rattle.std.specs.Prelude.{◌≡◌, ◌≢◌, ◌<◌, ℕ, List, [], ◌∷◌, ◌++◌, length};
+ghost use Rattle.std.specs.List.{AllByRecursion};
+ghost use Rattle.hb_table.specs.declared.order.Order.{Order};
+ghost use Rattle.hb_table.specs.Lines.{without_return, lines_of};
+ghost use Rattle.hb_table.specs.Orders.{Asks};
+
+/// A law: no line asks two orders.
+pub fn one_order()
+    ensures { (line : List ℕ) (a b : Order) → Asks line a → Asks line b → a ≡ b }
+{}
+
+/// A law: each line asks an order.
+pub fn some_order()
+    ensures { (line : List ℕ) → (order : Order) × Asks line order }
+{}
+
+/// A law: a line has no line feed.
+pub fn no_feed()
+    ensures { (input : List ℕ) → AllByRecursion (AllByRecursion (λ b. b ≢ 10)) (lines_of input) }
+{}
+
+/// A law: what stands before the first line feed is the first line, and what stands behind it has the others.
+pub fn first_line()
+    ensures { (front rest : List ℕ) → AllByRecursion (λ b. b ≢ 10) front → lines_of (front ++ 10 ∷ rest) ≡ without_return front ∷ lines_of rest }
+{}
+
+/// A law: without a line feed the whole input is its one line, but for an empty one.
+pub fn last_line()
+    ensures { (input : List ℕ) → AllByRecursion (λ b. b ≢ 10) input → 0 < length input → lines_of input ≡ without_return input ∷ [] }
+{}
