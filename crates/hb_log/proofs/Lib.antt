@@ -1,0 +1,6 @@
+pub mod Appending
+mod Forcing
+mod Framing
+mod Fresh
+pub mod Readings
+pub mod Standing

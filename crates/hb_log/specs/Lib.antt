@@ -1,0 +1,4 @@
+pub mod Forced
+pub mod Log
+pub mod Standing
+pub mod Steps
