@@ -1,16 +1,14 @@
 -- How a run over one disk ends.
-use Rattle.std.proofs.Common.{◌≡◌, ◌≢◌, ◌⊎◌, inl, inr, ℕ, ◌≤◌, List, [], ◌++◌, length, take, refl, sym, ◌∙◌, ap, subst, arith}
-use Rattle.std.specs.Prelude.{Some, None, IfSome, Result, Ok, Err, OnOk, OnErr, IfErr}
+use Rattle.std.proofs.Common.{◌≡◌, ◌≢◌, ◌⊎◌, inl, inr, ℕ, ◌≤◌, List, [], ◌++◌, take, refl, sym, ◌∙◌, ap, subst, arith}
+use Rattle.std.specs.Prelude.{Some, None, IfSome, Result, Ok, Err, OnOk, OnErr}
 use Rattle.std.specs.declared.option.Option.{Option}
-use Rattle.std.proofs.lemmas.List.{append-nil}
 use Rattle.hb_edge.specs.Causes.{Rose}
 use Rattle.hb_edge.specs.Images.{Image}
-use Rattle.hb_edge.specs.Stops.{Only}
 use Rattle.hb_edge.specs.Streams.{with_end, PutsPart}
 use Rattle.hb_table.specs.declared.order.Order.{Order}
 use Rattle.hb_table.specs.Table.{Entry}
-use Rattle.hb_table.specs.Entries.{spelled, IsTable}
-use Rattle.hb_table.specs.Run.{entries_after, replies, run_text, lines_text, IsFront}
+use Rattle.hb_table.specs.Entries.{IsTable}
+use Rattle.hb_table.specs.Run.{entries_after, replies, lines_text, IsFront}
 use Rattle.hb_table.proofs.EntryBytes.{one_list}
 use Rattle.hb_console.specs.declared.stop.Stop.{Stop}
 use Rattle.hb_console.specs.declared.stop.Stop.TheVariants.{Usage, Source, Sink, Disk, Damaged, Memory}
@@ -21,7 +19,7 @@ use Rattle.hb_console.specs.Tables.{Keeps, Stores, IsKept, IsNoTable, Opens, May
 use Rattle.hb_console.specs.Runs.{ForOrders, Answers, StopsAt, Runs}
 use Rattle.hb_console.specs.Ends.{Ends, Finishes, Stands, ForRun}
 use Rattle.hb_console.proofs.Replying.{with_end_twice, with_end_nothing, front_part, has_shown-all}
-use Rattle.hb_console.proofs.Running.{for_asked, asked_start, stops_at, rose_since, by_device}
+use Rattle.hb_console.proofs.Running.{for_asked, asked_start, stops_at, rose_since, by_device, goes_twice}
 
 all_some : {X : Type 0} (o : Option X) (P : X → Type 0) → ((x : X) → P x) → IfSome o P
 all_some None P f = tt
@@ -123,6 +121,7 @@ module _ (before after : Outside) where
   ends_stopped : (stop : Stop) → GoesOn before after → Why before after stop → ForRun before (λ start orders. StopsAt start before after stop orders) → (e : Stop) → e ≡ stop → (result : Result (Unit {0}) Stop) → result ≡ Err e → Ends (status_of result) before after
   ends_stopped stop goes_on why stands e same result is = subst (λ (r : Result (Unit {0}) Stop). Ends (status_of r) before after) (sym (is ∙ ap (λ (s : Stop). Err s) same)) (record {
     not_usage = not_usage stop why;
+    named = λ _. (stop, refl);
     goes_on = goes_on;
     finished = λ zero. absurd (not_done stop zero);
     stopped = λ _. for_run_map before _ _ (λ start orders at. stands_of before after stop start orders at) stands;
@@ -137,6 +136,7 @@ module _ (before after : Outside) where
   ends_done : GoesOn before after → HasTable before.content → ForRun before (Finishes before after) → Ends 0 before after
   ends_done goes_on has finishes = record {
     not_usage = λ e. absurd (omega arith);
+    named = λ other. absurd (other refl);
     goes_on = goes_on;
     finished = λ _. finishes;
     stopped = λ other. absurd (other refl);
@@ -193,21 +193,12 @@ module _ (table : Table) (before mid : Outside) (opens : Opens before.content ta
   why_stopped after Memory may source sink disk = tt
 
   module _ (input : mid.input ≡ before.input) (output : mid.output ≡ before.output) (begins : GoesOn before mid) where
-    goes_twice : (after : Outside) → GoesOn mid after → GoesOn before after
-    goes_twice after second = record {
-      source = omega (arith, begins.source, second.source);
-      sink = omega (arith, begins.sink, second.sink);
-      disk = omega (arith, begins.disk, second.disk);
-      output = second.output ∙ begins.output;
-      content = second.content ∙ begins.content;
-    }
-
     stopped_since : (after : Outside) (stop : Stop) (start : List Entry) (orders : List Order) → StopsAt start mid after stop orders → StopsAt start before after stop orders
     stopped_since after stop start orders at = record { shown = at.shown; text = at.text ∙ ap (with_end at.shown) output; front = at.front; stores = at.stores }
 
     -- a stop among the orders
     pub run_ends : (after : Outside) (stop : Stop) → Runs table mid after (Err stop) → (e : Stop) → e ≡ stop → (result : Result (Unit {0}) Stop) → result ≡ Err e → Ends (status_of result) before after
-    run_ends after stop runs = ends_stopped before after stop (goes_twice after runs.goes_on) (why_stopped after stop runs.cause begins.source begins.sink begins.disk)
+    run_ends after stop runs = ends_stopped before after stop (goes_twice before mid after begins runs.goes_on) (why_stopped after stop runs.cause begins.source begins.sink begins.disk)
         (from_opened _ (λ start keeps stores. subst (λ (i : Option (List ℕ)). ForOrders i (StopsAt start before after stop)) input (for_orders_map mid.input _ _ (stopped_since after stop start) (runs.stopped start keeps stores))))
 
     module _ (run after : Outside) (n : ℕ) (runs : Runs table mid run (Ok n)) (stays : (entries : List Entry) → Stores entries run.content run.left run.last → Stores entries after.content after.left after.last) where
@@ -223,28 +214,16 @@ module _ (table : Table) (before mid : Outside) (opens : Opens before.content ta
         stores = λ other. (entries_after start orders, stays (entries_after start orders) answers.stores, has_shown-all start orders (replies 1 start orders ++ take part (lines_text n)));
       }
 
+      goes_on_last : GoesOn run after → GoesOn before after
+      goes_on_last last = goes_twice before run after (goes_twice before mid run begins runs.goes_on) last
+
       pub last_stops : (stop : Stop) → GoesOn run after → MayStop mid.faults after.faults stop → PutsPart run.output after.output (lines_text n) → (e : Stop) → e ≡ stop → (result : Result (Unit {0}) Stop) → result ≡ Err e → Ends (status_of result) before after
       last_stops stop ends may part = ends_stopped before after stop (goes_on_last ends) (why_stopped after stop may begins.source begins.sink begins.disk)
           (from_opened _ (λ start keeps stores. answered start keeps stores _ (stops_last stop part.0 part.1 start)))
-        where
-          goes_on_last : GoesOn run after → GoesOn before after
-          goes_on_last last = record {
-            source = omega (arith, begins.source, runs.goes_on.source, last.source);
-            sink = omega (arith, begins.sink, runs.goes_on.sink, last.sink);
-            disk = omega (arith, begins.disk, runs.goes_on.disk, last.disk);
-            output = last.output ∙ runs.goes_on.output ∙ begins.output;
-            content = last.content ∙ runs.goes_on.content ∙ begins.content;
-          }
 
       pub last_ends : GoesOn run after → after.input ≡ run.input → after.output ≡ with_end (lines_text n) run.output → Ends 0 before after
       last_ends last input_is out = ends_done before after
-          (record {
-            source = omega (arith, begins.source, runs.goes_on.source, last.source);
-            sink = omega (arith, begins.sink, runs.goes_on.sink, last.sink);
-            disk = omega (arith, begins.disk, runs.goes_on.disk, last.disk);
-            output = last.output ∙ runs.goes_on.output ∙ begins.output;
-            content = last.content ∙ runs.goes_on.content ∙ begins.content;
-          })
+          (goes_on_last last)
           has_table
           (from_opened _ (λ start keeps stores. answered start keeps stores _ (λ orders answers. record {
             text = out ∙ ap (with_end (lines_text n)) (answers.text ∙ ap (with_end (replies 1 start orders)) output) ∙ with_end_twice before.output (replies 1 start orders) (lines_text n) ∙ ap (λ (k : ℕ). with_end (replies 1 start orders ++ lines_text k) before.output) answers.count;

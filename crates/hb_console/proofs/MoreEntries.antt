@@ -1,6 +1,6 @@
 -- One more entry: in the list, in the table, and on the disk.
-use Rattle.std.proofs.Common.{◌≡◌, ◌≢◌, ℕ, ◌+◌, ◌-◌, ◌<◌, List, [], ◌∷◌, ◌++◌, length, take, drop, refl, sym, ◌∙◌, ap, subst, arith, append_assoc, length-append, ℤ, true, false, Bool, w32}
-use Rattle.std.specs.Prelude.{Some, None, IfSome, FitsSigned, ◌||◌, replicate}
+use Rattle.std.proofs.Common.{◌≡◌, ℕ, ◌+◌, ◌-◌, ◌<◌, List, [], ◌∷◌, ◌++◌, length, drop, refl, sym, ◌∙◌, ap, arith, append_assoc, length-append, ℤ, false, Bool, w32}
+use Rattle.std.specs.Prelude.{Some, None, FitsSigned, ◌||◌, replicate}
 use Rattle.std.specs.Option.{option_map}
 use Rattle.std.specs.declared.option.Option.{Option}
 use Rattle.std.specs.Ordering.{int_cmp, int_eq}
@@ -30,7 +30,7 @@ pub spelled-push : (entries : List Entry) (entry : Entry) → spelled (entries +
 spelled-push [] entry = append-nil (entry_bytes entry)
 spelled-push (e ∷ entries) entry = ap (λ (l : List ℕ). entry_bytes e ++ l) (spelled-push entries entry) ∙ sym (append_assoc (entry_bytes e) (spelled entries) (entry_bytes entry))
 
-or_none : (a b : Bool) → a ≡ false → b ≡ false → (a || b) ≡ false
+pub or_none : (a b : Bool) → a ≡ false → b ≡ false → (a || b) ≡ false
 or_none a b x y = cc
 
 -- `==` is symmetric

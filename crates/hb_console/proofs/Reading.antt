@@ -1,16 +1,14 @@
 -- The entries read so far from the bytes of a disk.
-use Rattle.std.proofs.Common.{◌≡◌, ℕ, ◌+◌, ◌<◌, ◌≤◌, List, [], ◌∷◌, ◌++◌, length, refl, sym, ◌∙◌, ap, subst, arith, append_assoc, length-append, ℤ, true, false, Bool, w32}
-use Rattle.std.specs.Prelude.{FitsSigned, ◌||◌}
+use Rattle.std.proofs.Common.{◌≡◌, ℕ, ◌<◌, ◌≤◌, List, [], ◌∷◌, ◌++◌, length, refl, sym, ◌∙◌, ap, subst, arith, append_assoc, length-append, ℤ, true, false, w32}
+use Rattle.std.specs.Prelude.{FitsSigned}
 use Rattle.std.specs.Ordering.{int_cmp, int_eq}
 use Rattle.std.specs.BTreeMap.{insert_entry}
-use Rattle.std.proofs.lemmas.List.{append-nil, nil_from_length}
 use Rattle.hb_table.specs.Table.{Entry, rows_of, has_key}
 use Rattle.hb_table.specs.Entries.{entry_bytes, spelled, AreEntries, IsTable}
 use Rattle.hb_table.proofs.EntryBytes.{one_entry, entry_cells}
 use Rattle.hb_table.proofs.RowOrder.{or_parts, has_key-rows_of}
-use Rattle.hb_console.specs.declared.table.Table.{Table}
-use Rattle.hb_console.specs.Tables.{Keeps, IsNoTable}
-use Rattle.hb_console.proofs.MoreEntries.{eq_false, AreEntries-push, rows_more, spelled-push}
+use Rattle.hb_console.specs.Tables.{IsNoTable}
+use Rattle.hb_console.proofs.MoreEntries.{or_none, eq_false, AreEntries-push, rows_more, spelled-push}
 
 -- these entries were read, the rest is left, and each list of entries that the bytes are goes on from them
 pub record Reads (bytes rest : List ℕ) (rows : List Entry) : Type 0 where
@@ -20,14 +18,8 @@ pub record Reads (bytes rest : List ℕ) (rows : List Entry) : Type 0 where
   pub in_rows : rows ≡ rows_of read
   pub only : (entries : List Entry) → IsTable bytes entries → (others : List Entry) × (entries ≡ read ++ others) × (rest ≡ spelled others)
 
-pub reads_start : (bytes : List ℕ) → Reads bytes bytes []
-reads_start bytes = record { read = []; split = refl; are = tt; in_rows = refl; only = λ entries table. (entries, refl, table.spelling) }
-
 true_false : true ≡ false → ⊥
 true_false e = cc
-
-or_none : (a b : Bool) → a ≡ false → b ≡ false → (a || b) ≡ false
-or_none a b x y = cc
 
 -- the first key differs from a later one
 apart : (k : ℤ) (read : List Entry) (o : Entry) (os : List Entry) → has_key k (read ++ o ∷ os) ≡ false → int_eq k o.0 ≡ false
@@ -85,11 +77,6 @@ reads_on bytes rest rows rows' reads key text more is fits short new some added 
         let same : o ≡ (key, text) = λ i. (sym one.0 i, sym one.1 i) in
         (os, entries_is ∙ ap (λ (e : Entry). reads.read ++ e ∷ os) same ∙ sym (append_assoc reads.read ((key, text) ∷ []) os), one.2)
 
--- all of it is read
-pub reads_all : (bytes rest : List ℕ) (rows : List Entry) (table : Table) → Reads bytes rest rows → length rest ≡ 0 → table.rows.entries ≡ rows → table.end ≡ length bytes → (start : List Entry) × Keeps start table × IsTable bytes start
-reads_all bytes rest rows table reads none rows_is end_is =
-    let all : bytes ≡ spelled reads.read = reads.split ∙ ap (λ (l : List ℕ). spelled reads.read ++ l) (nil_from_length rest none) ∙ append-nil (spelled reads.read) in
-    (reads.read, record { are = reads.are; rows = rows_is ∙ reads.in_rows; end = end_is ∙ ap length all }, record { are = reads.are; spelling = all })
-
+-- what is left grows shorter
 pub entry_shorter : (bytes : List ℕ) (key : ℤ) (text more : List ℕ) → bytes ≡ entry_bytes (key, text) ++ more → length more < length bytes
 entry_shorter bytes key text more is = omega (arith, ap length (is ∙ entry_cells key text more), length-append text more)

@@ -1,10 +1,10 @@
 -- The rows in a map, and the rows of entries.
-use Rattle.std.proofs.Common.{◌≡◌, ◌≢◌, ℕ, List, [], ◌∷◌, ◌++◌, refl, sym, ◌∙◌, ap, ℤ, true, false, Bool, cond}
+use Rattle.std.proofs.Common.{◌≡◌, ◌≢◌, ℕ, List, [], ◌∷◌, refl, sym, ℤ, true, false, Bool, cond}
 use Rattle.std.specs.Prelude.{Some, ◌||◌, ◌<ℤ◌}
 use Rattle.std.specs.Option.{is_some}
 use Rattle.std.specs.declared.option.Option.{Option}
 use Rattle.std.specs.Map.{lookup}
-use Rattle.std.specs.Ordering.{int_cmp, int_eq, is_lt, match_ordering, MatchOrdering}
+use Rattle.std.specs.Ordering.{int_cmp, int_eq, match_ordering, MatchOrdering}
 use Rattle.std.specs.declared.cmp.Ordering.{Ordering}
 use Rattle.std.specs.declared.cmp.Ordering.TheVariants.{Less, Equal, Greater}
 use Rattle.std.specs.Cmp.{int_ranks}

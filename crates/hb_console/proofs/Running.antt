@@ -10,8 +10,8 @@ use Rattle.hb_table.specs.declared.order.Order.{Order}
 use Rattle.hb_table.specs.Lines.{lines_of}
 use Rattle.hb_table.specs.Orders.{AskAll}
 use Rattle.hb_table.specs.Table.{Entry, entries_with, reply_to}
-use Rattle.hb_table.specs.Run.{entries_after, replies, run_text, IsFront, HasShown}
-use Rattle.hb_script.specs.Scripts.{NextOrder, FirstAsks}
+use Rattle.hb_table.specs.Run.{entries_after, replies, run_text, IsFront}
+use Rattle.hb_script.specs.Scripts.{NextOrder}
 use Rattle.hb_console.specs.declared.stop.Stop.{Stop}
 use Rattle.hb_console.specs.declared.stop.Stop.TheVariants.{Disk, Memory}
 use Rattle.hb_console.specs.declared.table.Table.{Table}

@@ -1,12 +1,14 @@
 -- The top call: its words, and what stands at each of its statuses.
-use Rattle.std.specs.Prelude.{◌≡◌, ◌≢◌, ◌⊎◌, ◌≤◌, ℕ, List, [], ◌∷◌, Some, Option, length, IfSome, codes}
+use Rattle.std.specs.Prelude.{◌≡◌, ◌≢◌, ◌⊎◌, ℕ, List, [], ◌∷◌, Some, IfSome, codes}
 use Rattle.hb_edge.specs.Causes.{Rose}
 use Rattle.hb_edge.specs.Streams.{with_end}
 use Rattle.hb_table.specs.declared.order.Order.{Order}
 use Rattle.hb_table.specs.Table.{Entry}
 use Rattle.hb_table.specs.Entries.{IsTable}
 use Rattle.hb_table.specs.Run.{entries_after, run_text, IsFront, HasShown}
+use Rattle.hb_console.specs.declared.stop.Stop.{Stop}
 use Rattle.hb_console.specs.Outside.{Outside, GoesOn}
+use Rattle.hb_console.specs.Stops.{code_of}
 use Rattle.hb_console.specs.Tables.{Stores, IsNoTable}
 use Rattle.hb_console.specs.Runs.{ForOrders}
 
@@ -35,6 +37,7 @@ ForRun before P = IfSome before.content (λ image. (start : List Entry) → IsTa
 -- how a run over one disk ends
 pub record Ends (status : ℕ) (before after : Outside) : Type 0 where
   pub not_usage : status ≢ 1
+  pub named : status ≢ 0 → (stop : Stop) × (status ≡ code_of stop)
   pub goes_on : GoesOn before after
   pub finished : status ≡ 0 → ForRun before (Finishes before after)
   pub stopped : status ≢ 0 → ForRun before (Stands status before after)

@@ -12,6 +12,7 @@ mod store;
 mod table;
 
 pub use console::{Ended, back_ends, console_run};
-pub use reply::Reply;
 pub use stop::{Stop, status_word};
-pub use table::Table;
+
+#[cfg(test)]
+mod tests;

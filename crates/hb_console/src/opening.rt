@@ -2,10 +2,10 @@
 ghost use Rattle.std.specs.Prelude.{◌≡◌, ◌≤◌, IfOk, IfErr, IsErrOf, Some};
 ghost use Rattle.hb_console.specs.Tables.{IsKept, Opens, MayNotOpen};
 
+use crate::Stop;
 use crate::entry::split_entry;
 use crate::store::sync_and_read;
-use crate::table::{add_row, is_taken};
-use crate::{Stop, Table};
+use crate::table::{Table, add_row, is_taken};
 use hb_edge::{Clock, Disk};
 use hb_types::Text;
 use std::alloc::Global;

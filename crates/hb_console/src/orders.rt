@@ -5,11 +5,11 @@ ghost use Rattle.hb_table.specs.Table.{Entry, entries_with, reply_to, rows_of, r
 ghost use Rattle.hb_console.specs.Stops.{StopsBy};
 ghost use Rattle.hb_console.specs.Tables.{Keeps, Serves, Stores};
 
+use crate::Stop;
 use crate::entry::spell_entry;
 use crate::reply::Reply;
 use crate::store::write_and_sync;
-use crate::table::{add_row, end_after, is_taken};
-use crate::{Stop, Table};
+use crate::table::{Table, add_row, end_after, is_taken};
 use hb_edge::{Clock, Disk};
 use hb_script::{inserted, not_built, rows};
 use hb_table::Order;

@@ -7,9 +7,10 @@ ghost use Rattle.hb_console.specs.Replies.{bytes_of};
 ghost use Rattle.hb_console.specs.Runs.{Runs};
 ghost use Rattle.hb_console.specs.Stops.{StopsBy};
 
+use crate::Stop;
 use crate::orders::serve;
 use crate::reply::Reply;
-use crate::{Stop, Table};
+use crate::table::Table;
 use hb_edge::{Clock, Disk, Failed, Sink, Source};
 use hb_script::ScriptReader;
 use hb_table::Order;

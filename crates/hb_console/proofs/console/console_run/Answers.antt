@@ -1,4 +1,4 @@
-use Rattle.std.proofs.Common.{◌≡◌, sym, ◌∙◌, arith, rules, true}
+use Rattle.std.proofs.Common.{◌≡◌, sym, ◌∙◌, arith, rules}
 use Rattle.std.specs.Prelude.{IsTrue, length}
 use Rattle.hb_console.proofs.console.console_run.Goals as goal
 

@@ -1,4 +1,4 @@
-use Rattle.std.proofs.Common.{◌≡◌, ◌∙◌, refl, ap, arith}
+use Rattle.std.proofs.Common.{refl, ap, arith}
 use Rattle.std.specs.Prelude.{is_some}
 use Rattle.std.proofs.lemmas.Result.{err_from_is_err_and}
 use Rattle.hb_console.specs.declared.stop.Stop.TheVariants.{Memory}

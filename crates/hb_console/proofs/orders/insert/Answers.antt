@@ -1,8 +1,7 @@
 use Rattle.std.proofs.Common.{◌≡◌, true, false, refl, sym, ◌∙◌, ap, SFits, w32}
 use Rattle.std.proofs.lemmas.Int.{to_z-of_z}
-use Rattle.hb_table.specs.Table.{Entry, has_key}
+use Rattle.hb_table.specs.Table.{has_key}
 use Rattle.hb_table.proofs.RowOrder.{has_key-rows_of}
-use Rattle.hb_console.specs.Tables.{Keeps, Stores}
 use Rattle.hb_console.proofs.OrderReplies.{entries_with-taken, entries_with-new, reply_to-taken, reply_to-new}
 use Rattle.hb_console.proofs.orders.insert.Goals as goal
 

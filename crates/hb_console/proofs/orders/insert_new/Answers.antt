@@ -1,8 +1,7 @@
-use Rattle.std.proofs.Common.{◌≡◌, ◌<◌, ℕ, ℤ, ◌+◌, List, [], ◌∷◌, ◌++◌, length, false, ◌∙◌, sym, ap, subst, arith, rules, SFits, w32}
+use Rattle.std.proofs.Common.{◌≡◌, ◌<◌, ℕ, ◌+◌, List, length, ◌∙◌, ap, subst, arith, rules, SFits, w32}
 use Rattle.std.specs.Option.{option_map}
 use Rattle.std.specs.Ordering.{int_cmp}
 use Rattle.std.specs.BTreeMap.{insert_entry}
-use Rattle.std.specs.String.{string_bytes}
 use Rattle.std.proofs.lemmas.Int.{to_z-of_z}
 use Rattle.hb_edge.specs.Images.{written}
 use Rattle.hb_table.specs.Table.{Entry, inserted_text}

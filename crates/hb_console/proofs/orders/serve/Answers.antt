@@ -1,4 +1,4 @@
-use Rattle.std.proofs.Common.{◌≡◌, ◌∙◌, ap, SFits, w32, rules}
+use Rattle.std.proofs.Common.{◌∙◌, ap, SFits, w32, rules}
 use Rattle.std.proofs.lemmas.Int.{to_z-of_z}
 use Rattle.hb_table.specs.Table.{rows_text}
 use Rattle.hb_console.proofs.OrderReplies.{reply_to-insert, entries_with-select, entries_with-not_built, reply_to-select, reply_to-not_built}

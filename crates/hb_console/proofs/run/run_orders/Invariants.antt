@@ -1,4 +1,4 @@
-use Rattle.std.proofs.Common.{◌+◌, ℕ, List, length}
+use Rattle.std.proofs.Common.{◌+◌, List, length}
 use Rattle.hb_edge.specs.Streams.{with_front}
 use Rattle.hb_table.specs.Table.{Entry}
 use Rattle.hb_console.specs.Outside.{seen, GoesOn}
