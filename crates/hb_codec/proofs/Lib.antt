@@ -1,3 +1,4 @@
+pub mod OneBody
 mod Calculus
 mod Digits
 mod Widths

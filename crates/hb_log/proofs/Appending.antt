@@ -1,6 +1,6 @@
 -- What stands in an image while a record is forced behind the closed gate.
-use Rattle.std.proofs.Common.{◌≡◌, ◌≢◌, ◌⊎◌, inl, inr, ⊎_elim, ℕ, ◌+◌, ◌-◌, ◌<◌, ◌≤◌, nat_lt, Bool, true, false, if◌then◌else◌, List, [], ◌∷◌, ◌++◌, length, take, drop, replicate, get_or, refl, sym, ◌∙◌, ap, subst, arith, append_assoc, length-append}
-use Rattle.std.proofs.lemmas.List.{append-nil, take_at, drop_at, length-take, length-drop, length-replicate, get_or-take, get_or-drop, get_or_append_left, get_or-append_right, get_or_at, ext_get_or}
+use Rattle.std.proofs.Common.{◌≡◌, ◌≢◌, inl, inr, ⊎_elim, ℕ, ◌+◌, ◌-◌, ◌<◌, ◌≤◌, nat_lt, Bool, true, false, if◌then◌else◌, List, [], ◌∷◌, ◌++◌, length, take, drop, replicate, get_or, refl, sym, ◌∙◌, ap, subst, arith, append_assoc, length-append}
+use Rattle.std.proofs.lemmas.List.{take_at, drop_at, length-take, length-drop, length-replicate, get_or-drop, get_or_at, ext_get_or}
 use Rattle.std.proofs.lemmas.Bool.{cases_eq, cases_lt}
 use Rattle.hb_edge.specs.ImageLaws.{torn_written}
 use Rattle.hb_edge.specs.Images.{Image, Torn, written}
@@ -12,7 +12,7 @@ use Rattle.hb_types.specs.Records.{HasRecord, body_bytes, framed, record_length}
 use Rattle.hb_log.specs.Forced.{Forced}
 use Rattle.hb_log.specs.Log.{IsBeforeOrAfter}
 use Rattle.hb_log.specs.Standing.{StandFrom}
-use Rattle.hb_log.proofs.Standing.{framed_long, stand_more, end_more, stand_records, records_stand, records_closed, end_later, stand_too}
+use Rattle.hb_log.proofs.Standing.{framed_long, stand_more, end_more, stand_records, records_stand, records_closed, stand_too}
 
 body_not_empty : (item : LogItem) → 1 ≤ length (body_bytes item)
 body_not_empty (Prepare tx floor locks changes) = omega arith
@@ -96,8 +96,8 @@ module _ (old : Image) (from shut : ℕ) (placed : List Placed) (records : Recor
     whole image torn is_open =
         subst (λ (k : ℕ). RecordsFrom image from (placed ++ record { place = k; item = item } ∷ [])) (sym is_shut)
         (stand_records image from (placed ++ record { place = end_of from placed; item = item } ∷ [])
-          (stand_more image from placed item (stand_too old image from placed stand (λ i lt. same_front image torn i (omega (arith, lt, is_shut))) (omega (arith, within, is_shut))) (subst (λ (k : ℕ). StandsAt image k item) is_shut here))
-          (λ is. next_closed (ap (λ (k : ℕ). gate image k) (next_place) ∙ is)))
+        (stand_more image from placed item (stand_too old image from placed stand (λ i lt. same_front image torn i (omega (arith, lt, is_shut))) (omega (arith, within, is_shut))) (subst (λ (k : ℕ). StandsAt image k item) is_shut here))
+        (λ is. next_closed (ap (λ (k : ℕ). gate image k) (next_place) ∙ is)))
       where
         long : length image ≡ length staged
         long = omega (arith, torn.no_shorter, torn.no_longer, staged_long)
@@ -125,8 +125,8 @@ module _ (old : Image) (from shut : ℕ) (placed : List Placed) (records : Recor
         next_closed : gate image (shut + 1 + length (framed item)) ≡ 1 → ⊥
         next_closed is =
             let zero : get_or image (shut + 1 + length (framed item)) 0 ≡ 0 =
-                sym (get_or-drop (shut + 1) image (length (framed item)) 0) ∙ ap (λ (l : List ℕ). get_or l (length (framed item)) 0) back
-                ∙ get_or_at (framed item) 0 (drop (shut + 1 + length bytes) old) 0 (length (framed item)) refl in
+            sym (get_or-drop (shut + 1) image (length (framed item)) 0) ∙ ap (λ (l : List ℕ). get_or l (length (framed item)) 0) back
+            ∙ get_or_at (framed item) 0 (drop (shut + 1 + length bytes) old) 0 (length (framed item)) refl in
             omega (arith, is, zero)
 
     pub forced : (image : Image) → Forced shut bytes old image → IsBeforeOrAfter from placed new image

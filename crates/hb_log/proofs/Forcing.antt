@@ -1,5 +1,5 @@
 -- The four device calls of an append, one after another.
-use Rattle.std.proofs.Common.{◌≡◌, ◌⊎◌, inl, inr, ℕ, ◌+◌, ◌<◌, ◌≤◌, max, List, [], ◌∷◌, length, sym, ◌∙◌, ap, subst, arith}
+use Rattle.std.proofs.Common.{◌≡◌, inl, inr, ℕ, ◌+◌, ◌≤◌, max, List, length, sym, subst, arith}
 use Rattle.hb_edge.specs.ImageLaws.{torn_undone}
 use Rattle.hb_edge.specs.Images.{Image, Torn, Same, written}
 use Rattle.hb_edge.specs.Moments.{tick}

@@ -1,6 +1,6 @@
 -- A record that stands behind an open gate has the length and the body that its frame says.
-use Rattle.std.proofs.Common.{◌≡◌, ℕ, ◌+◌, ◌-◌, ◌<◌, ◌≤◌, min, List, [], ◌∷◌, ◌++◌, length, take, drop, refl, sym, ◌∙◌, ap, arith, length-append}
-use Rattle.std.proofs.lemmas.List.{drop-take, drop_at, length-take, length-drop, take-take, take_at}
+use Rattle.std.proofs.Common.{◌≡◌, ℕ, ◌+◌, List, ◌∷◌, ◌++◌, length, take, drop, refl, sym, ◌∙◌, ap, arith, length-append}
+use Rattle.std.proofs.lemmas.List.{drop-take, drop_at, take-take, take_at}
 use Rattle.std.proofs.lemmas.Nat.{from_le_bytes-to_le_bytes_4}
 use Rattle.std.specs.Int.{from_le_bytes, w32}
 use Rattle.hb_types.specs.declared.change.LogItem.{LogItem}

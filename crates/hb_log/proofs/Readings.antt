@@ -1,14 +1,13 @@
 -- Two readings of one image are one, no image is both read and damaged, and records ascend in place.
-use Rattle.std.proofs.Common.{◌≡◌, ◌≢◌, ℕ, ◌+◌, ◌<◌, ◌≤◌, List, [], ◌∷◌, length, drop, sym, ◌∙◌, ap, subst, refl, arith}
+use Rattle.std.proofs.Common.{◌≡◌, ℕ, ◌+◌, ◌<◌, List, [], ◌∷◌, drop, sym, ◌∙◌, subst, refl, arith}
 use Rattle.std.specs.Ordering.{nat_cmp}
 use Rattle.std.specs.Cmp.{nat_cmp_is}
-use Rattle.std.specs.declared.cmp.Ordering.{Ordering}
 use Rattle.std.specs.declared.cmp.Ordering.TheVariants.{Less}
 use Rattle.hb_codec.proofs.OneBody.{one_body}
 use Rattle.hb_types.specs.declared.change.LogItem.{LogItem}
 use Rattle.hb_types.specs.declared.change.Placed.{Placed}
 use Rattle.hb_types.specs.Lists.{Ascends}
-use Rattle.hb_types.specs.Logs.{gate, StandsAt, Records, RecordsFrom, readable, end_of}
+use Rattle.hb_types.specs.Logs.{gate, StandsAt, RecordsFrom, end_of}
 use Rattle.hb_types.specs.Records.{record_length}
 use Rattle.hb_log.specs.Standing.{StandFrom, Breaks}
 use Rattle.hb_log.proofs.Framing.{same_body}
@@ -40,8 +39,8 @@ never_both image from at placed records breaks =
         let item : p.item ≡ g.item = one_item image from p.item g.item records.1 stand.1 in
         let place : from + record_length g.item ≡ g.place + record_length g.item = omega (arith, stand.0) in
         apart (from + record_length g.item) ps gs (subst (λ (x : LogItem). RecordsFrom image (from + record_length x) ps) item records.2) stand.2
-          (subst (λ (k : ℕ). gate image (end_of k gs) ≡ 1) (sym place) is_open)
-          (λ x here. none x (subst (λ (k : ℕ). StandsAt image (end_of k gs) x) place here))
+        (subst (λ (k : ℕ). gate image (end_of k gs) ≡ 1) (sym place) is_open)
+        (λ x here. none x (subst (λ (k : ℕ). StandsAt image (end_of k gs) x) place here))
 
 below : (a b : ℕ) → a < b → nat_cmp a b ≡ Less
 below a b lt = sym (nat_cmp_is a b Less lt)

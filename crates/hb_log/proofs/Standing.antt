@@ -1,5 +1,5 @@
 -- Records one behind another: one record more, where they end, and the same records in another image.
-use Rattle.std.proofs.Common.{◌≡◌, ◌≢◌, ◌⊎◌, inl, inr, ⊎_elim, ℕ, ◌+◌, ◌-◌, ◌<◌, ◌≤◌, min, List, [], ◌∷◌, ◌++◌, length, take, drop, get_or, refl, sym, ◌∙◌, ap, subst, arith, length-append}
+use Rattle.std.proofs.Common.{◌≡◌, ◌≢◌, ℕ, ◌+◌, ◌<◌, ◌≤◌, List, [], ◌∷◌, ◌++◌, length, take, drop, get_or, refl, sym, ◌∙◌, ap, subst, arith, length-append}
 use Rattle.std.proofs.lemmas.List.{drop-drop, length-take, length-drop, ext_get_or, get_or-take, get_or-drop}
 use Rattle.hb_types.specs.declared.change.LogItem.{LogItem}
 use Rattle.hb_types.specs.declared.change.Placed.{Placed}
@@ -17,9 +17,12 @@ pub stand_more : (image : List ℕ) (from : ℕ) (placed : List Placed) (item : 
     → StandFrom image from (placed ++ record { place = end_of from placed; item = item } ∷ [])
 stand_more image from [] item stand here = (refl, here, tt)
 stand_more image from (p ∷ ps) item stand here =
-    let place : from + record_length p.item ≡ p.place + record_length p.item = omega (arith, stand.0) in
-    (stand.0, stand.1, subst (λ (e : ℕ). StandFrom image (from + record_length p.item) (ps ++ record { place = e; item = item } ∷ [])) (ap (λ (k : ℕ). end_of k ps) place)
-      (stand_more image (from + record_length p.item) ps item stand.2 (subst (λ (k : ℕ). StandsAt image (end_of k ps) item) (sym place) here)))
+    let place : from + record_length p.item ≡ p.place + record_length p.item = omega (arith, stand.0) in (
+      stand.0,
+      stand.1,
+      subst (λ (e : ℕ). StandFrom image (from + record_length p.item) (ps ++ record { place = e; item = item } ∷ [])) (ap (λ (k : ℕ). end_of k ps) place)
+          (stand_more image (from + record_length p.item) ps item stand.2 (subst (λ (k : ℕ). StandsAt image (end_of k ps) item) (sym place) here)),
+    )
 
 pub end_more : (from : ℕ) (placed : List Placed) (item : LogItem) → end_of from (placed ++ record { place = end_of from placed; item = item } ∷ []) ≡ end_of from placed + record_length item
 end_more from [] item = refl
@@ -80,9 +83,11 @@ stand_too old image from [] stand same inside = tt
 stand_too old image from (p ∷ ps) stand same inside =
     let place : from + record_length p.item ≡ p.place + record_length p.item = omega (arith, stand.0) in
     let end : end_of (from + record_length p.item) ps ≡ end_of (p.place + record_length p.item) ps = ap (λ (k : ℕ). end_of k ps) place in
-    let later = end_later old (from + record_length p.item) ps stand.2 in
-    (stand.0, stands_too old image from p.item stand.1 (λ i lt. same i (omega (arith, lt, later, end))) (omega (arith, later, end, inside)),
-      stand_too old image (from + record_length p.item) ps stand.2 (λ i lt. same i (omega (arith, lt, end))) (omega (arith, inside, end)))
+    let later = end_later old (from + record_length p.item) ps stand.2 in (
+      stand.0,
+      stands_too old image from p.item stand.1 (λ i lt. same i (omega (arith, lt, later, end))) (omega (arith, later, end, inside)),
+      stand_too old image (from + record_length p.item) ps stand.2 (λ i lt. same i (omega (arith, lt, end))) (omega (arith, inside, end)),
+    )
 
 -- the gate at a place is the first of what the image has from there
 pub gate_behind : (image : List ℕ) (place : ℕ) → gate image place ≡ gate (drop place image) 0

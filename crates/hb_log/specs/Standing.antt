@@ -1,5 +1,5 @@
 -- Records that stand in an image, and what ends them.
-use Rattle.std.specs.Prelude.{◌≡◌, ◌≢◌, ℕ, ◌+◌, List, [], ◌∷◌}
+use Rattle.std.specs.Prelude.{◌≡◌, ℕ, ◌+◌, List, [], ◌∷◌}
 use Rattle.hb_types.specs.declared.change.LogItem.{LogItem}
 use Rattle.hb_types.specs.declared.change.Placed.{Placed}
 use Rattle.hb_types.specs.Logs.{gate, StandsAt, RecordsFrom, end_of}

@@ -11,5 +11,4 @@ pub fn readings_are_one(_image: &[u8])
     ensures one { (from : ℕ) (a b : List Placed) → Records _image.now from a → Records _image.now from b → a ≡ b }
     ensures or_damaged { (from at : ℕ) (a : List Placed) → Records _image.now from a → Breaks (readable _image.now) from at → ⊥ }
     ensures ascending { (from : ℕ) (a : List Placed) → Records _image.now from a → Ascends (λ x y. nat_cmp x.place y.place) a }
-{
-}
+{}

@@ -1,4 +1,4 @@
-use Rattle.std.proofs.Common.{◌≡◌, take, drop, refl, ap, rules}
+use Rattle.std.proofs.Common.{◌≡◌, take, drop, refl, rules}
 use Rattle.std.specs.Int.{from_le_bytes, w32}
 use Rattle.hb_log.proofs.Framing.{not_framed}
 use Rattle.hb_log.proofs.walk.behind_gate.Goals as goal

@@ -1,6 +1,5 @@
-use Rattle.std.proofs.Common.{◌≡◌, ◌≢◌, ℕ, ◌+◌, ◌∷◌, [], ◌++◌, length, drop, sym, ◌∙◌, ap, subst, refl, arith, rules}
+use Rattle.std.proofs.Common.{◌≡◌, ◌≢◌, ◌+◌, ◌∷◌, [], ◌++◌, length, sym, ◌∙◌, ap, subst, refl, arith, rules}
 use Rattle.std.proofs.lemmas.List.{length-drop}
-use Rattle.hb_types.specs.declared.change.Placed.{Placed}
 use Rattle.hb_types.specs.Logs.{gate, end_of}
 use Rattle.hb_log.specs.Standing.{StandFrom}
 use Rattle.hb_log.specs.Steps.{Steps}

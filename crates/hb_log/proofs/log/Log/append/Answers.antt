@@ -1,10 +1,9 @@
-use Rattle.std.proofs.Common.{◌≡◌, ◌+◌, ◌<◌, ◌≤◌, [], ◌∷◌, ◌++◌, List, ℕ, Some, length, sym, ◌∙◌, ap, subst, arith}
+use Rattle.std.proofs.Common.{◌≡◌, ◌+◌, ◌<◌, [], ◌∷◌, ◌++◌, List, ℕ, Some, length, sym, ◌∙◌, ap, subst, arith}
 use Rattle.hb_edge.specs.Images.{written}
 use Rattle.hb_edge.specs.Runs.{weaker}
 use Rattle.hb_edge.specs.Stops.{Only}
 use Rattle.hb_types.specs.Records.{framed}
 use Rattle.hb_log.specs.Forced.{Forced}
-use Rattle.hb_log.specs.Log.{IsSettled}
 use Rattle.hb_log.proofs.Appending.{forced, done_records, done_long, done_end}
 use Rattle.hb_log.proofs.log.Log.append.Goals as goal
 

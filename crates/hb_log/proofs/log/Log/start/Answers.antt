@@ -1,6 +1,4 @@
-use Rattle.std.proofs.Common.{◌≡◌, ◌⊎◌, ⊎_elim, false, ℕ, ◌+◌, ◌<◌, ◌≤◌, [], ◌∷◌, List, Some, IfSome, max, drop, length, sym, ◌∙◌, ap, subst, arith, rules}
-use Rattle.hb_types.specs.declared.change.Placed.{Placed}
-use Rattle.hb_log.specs.Log.{IsSettled}
+use Rattle.std.proofs.Common.{◌≡◌, ⊎_elim, false, ℕ, [], ◌∷◌, List, IfSome, max, length, ◌∙◌, subst, arith, rules}
 use Rattle.hb_log.proofs.Fresh.{fresh_records, fresh_end, found_inside}
 use Rattle.hb_log.proofs.log.Log.start.Goals as goal
 
