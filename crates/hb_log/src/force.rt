@@ -1,5 +1,5 @@
 // The four device calls of an append.
-ghost use Rattle.std.specs.Prelude.{◌≡◌, ◌+◌, ◌<◌, ◌≤◌, ◌^◌, [], ◌∷◌, List, ℕ, Some, length, max, OnOk, OnErr};
+ghost use Rattle.std.specs.Prelude.{◌≡◌, ◌+◌, ◌<◌, ◌≤◌, ◌^◌, [], ◌∷◌, List, ℕ, Some, length, max, is_some, OnOk, OnErr};
 ghost use Rattle.hb_edge.specs.Causes.{HasCause};
 ghost use Rattle.hb_edge.specs.Images.{written};
 ghost use Rattle.hb_edge.specs.Stops.{Leaves, Only};
@@ -21,6 +21,7 @@ pub fn force<D: Disk>(
         → D.content disk.new ≡ Some (written gate (1 ∷ []) (written (gate + 1) bytes.now s))) }
     ensures kept { OnOk result ((s : List ℕ) → D.content disk.old ≡ Some s → D.last disk.old ≤ clock.old
         → Only (D.left disk.new) clock.new (written gate (1 ∷ []) (written (gate + 1) bytes.now s))) }
+    ensures told { is_some (D.content disk.new) ≡ is_some (D.content disk.old) }
     ensures clock { (clock.old ≤ clock.new) × (clock.new ≤ clock.old + 4) }
     ensures last { D.last disk.new ≡ max (D.last disk.old) clock.new }
     ensures cause { HasCause (D.faults disk.old) (D.faults disk.new) result }

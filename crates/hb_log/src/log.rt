@@ -1,5 +1,5 @@
 // A log over a disk.
-ghost use Rattle.std.specs.Prelude.{◌≡◌, ◌⊎◌, ◌↔◌, ◌+◌, ◌<◌, ◌≤◌, ◌^◌, [], ◌∷◌, ◌++◌, List, ℕ, Some, IsTrue, false, length, IfOk, IfErr, IfSome, OnOk, IsErrOf};
+ghost use Rattle.std.specs.Prelude.{◌≡◌, ◌⊎◌, ◌↔◌, ◌+◌, ◌<◌, ◌≤◌, ◌^◌, [], ◌∷◌, ◌++◌, List, ℕ, Some, IsTrue, false, is_some, length, IfOk, IfErr, IfSome, OnOk, IsErrOf};
 ghost use Rattle.hb_edge.specs.Causes.{Rose};
 ghost use Rattle.hb_edge.specs.Stops.{Leaves};
 ghost use Rattle.hb_types.specs.declared.change.LogItem.{LogItem};
@@ -46,6 +46,15 @@ impl<D: Disk> Log<D> {
         // At every moment, and after an Err, each image left is the disk as it read, or both have fewer than 7 bytes.
         ensures stop { IfOk result (λ log. (read : List ℕ) → D.content disk ≡ Some read → D.last disk ≤ clock.old → Leaves clock.old (D.left disk) (D.left log.disk) (λ m image. IsSameOrShort read image)) }
         ensures stop_err { IfErr result (λ e. (read : List ℕ) → D.content disk ≡ Some read → D.last disk ≤ clock.old → Leaves clock.old (D.left disk) (D.left e.1) (λ m image. IsSameOrShort read image)) }
+
+        // A log of 7 bytes or more reads as before, and so does each after an Err that is no fault.
+        ensures content { IfOk result (λ log. (read : List ℕ) → D.content disk ≡ Some read → 7 ≤ length read → D.content log.disk ≡ Some read) }
+        ensures content_err { IfErr result (λ e. (e.0 ≡ LogFault.Fault → ⊥) → D.content e.1 ≡ D.content disk) }
+        ensures told { IfOk result (λ log. is_some (D.content log.disk) ≡ is_some (D.content disk)) }
+        ensures told_err { IfErr result (λ e. is_some (D.content e.1) ≡ is_some (D.content disk)) }
+
+        // One of fewer bytes is made anew, unless the disk fails.
+        ensures short { IfErr result (λ e. (read : List ℕ) → D.content disk ≡ Some read → length read < 7 → e.0 ≡ LogFault.Fault) }
 
         // Where an opened record isn't in the grammar, its place.
         ensures damaged { IfErr result (λ e. (place : ℕ) → e.0 ≡ LogFault.Damaged place → (read : List ℕ) → D.content disk ≡ Some read → (7 ≤ length read) × Breaks read from place) }
@@ -113,6 +122,7 @@ impl<D: Disk> Log<D> {
         ensures no_other { (IsErrOf result LogFault.NoMemory → ⊥) × ((place : ℕ) → IsErrOf result (LogFault.Damaged place) → ⊥) }
         ensures still_closed { IsTrue self.old.closed → (self.new ≡ self.old) × (clock.new ≡ clock.old) }
         ensures items { self.new.items ≡ self.old.items }
+        ensures told { is_some (D.content self.new.disk) ≡ is_some (D.content self.old.disk) }
         ensures count { D.faults self.old.disk ≤ D.faults self.new.disk }
         ensures clock { (clock.old ≤ clock.new) × (clock.new ≤ clock.old + 4) }
         ensures in_time { D.last self.old.disk ≤ clock.old → D.last self.new.disk ≤ clock.new }

@@ -1,5 +1,5 @@
 // Opens a log.
-ghost use Rattle.std.specs.Prelude.{◌≡◌, ◌⊎◌, ◌+◌, ◌-◌, ◌<◌, ◌≤◌, ◌^◌, [], ◌∷◌, List, ℕ, Some, length, take, drop, max, IfOk, IfErr, IfSome, OnOk, OnErr, IsErrOf};
+ghost use Rattle.std.specs.Prelude.{◌≡◌, ◌⊎◌, ◌+◌, ◌-◌, ◌<◌, ◌≤◌, ◌^◌, [], ◌∷◌, List, ℕ, Some, length, take, drop, max, is_some, IfOk, IfErr, IfSome, OnOk, OnErr, IsErrOf};
 ghost use Rattle.std.specs.Option.{option_map};
 ghost use Rattle.hb_edge.specs.Causes.{HasCause, Rose};
 ghost use Rattle.hb_edge.specs.Stops.{Leaves, Only};
@@ -14,6 +14,7 @@ pub fn make_anew<D: Disk>(disk: &mut D, clock: &mut Clock) -> Result<(), Failed>
         → Leaves clock.old (D.left disk.old) (D.left disk.new) (λ m c. length c < 7) }
     ensures content { OnOk result ((s : List ℕ) → D.content disk.old ≡ Some s → D.content disk.new ≡ Some (0 ∷ [])) }
     ensures kept { OnOk result ((s : List ℕ) → D.content disk.old ≡ Some s → D.last disk.old ≤ clock.old → Only (D.left disk.new) clock.new (0 ∷ [])) }
+    ensures told { is_some (D.content disk.new) ≡ is_some (D.content disk.old) }
     ensures clock { (clock.old ≤ clock.new) × (clock.new ≤ clock.old + 3) }
     ensures last { D.last disk.new ≡ max (D.last disk.old) clock.new }
     ensures cause { HasCause (D.faults disk.old) (D.faults disk.new) result }
