@@ -121,6 +121,7 @@ impl<D: Disk> Log<D> {
         ensures fault { IsErrOf result LogFault.Fault → Rose (D.faults self.old.disk) (D.faults self.new.disk) × IsTrue self.new.closed }
         ensures no_other { (IsErrOf result LogFault.NoMemory → ⊥) × ((place : ℕ) → IsErrOf result (LogFault.Damaged place) → ⊥) }
         ensures still_closed { IsTrue self.old.closed → (self.new ≡ self.old) × (clock.new ≡ clock.old) }
+        ensures still_open { OnOk result (self.new.closed ≡ false) }
         ensures items { self.new.items ≡ self.old.items }
         ensures told { is_some (D.content self.new.disk) ≡ is_some (D.content self.old.disk) }
         ensures count { D.faults self.old.disk ≤ D.faults self.new.disk }
