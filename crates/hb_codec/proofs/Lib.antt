@@ -1,4 +1,3 @@
-pub mod OneBody
 mod Calculus
 mod Digits
 mod Widths
@@ -13,4 +12,5 @@ mod Ordered
 mod LockGrammar
 mod RecordGrammar
 mod PrepareGrammar
+mod Joined
 mod NumberAt

@@ -18,7 +18,7 @@ use Rattle.hb_types.specs.Places.{path_cmp, place_cmp, space_cmp, IsPath}
 use Rattle.hb_types.specs.Records.{space_bytes, place_bytes, mode_byte, lock_bytes}
 use Rattle.hb_codec.specs.Readers.{◌>>=◌, number_in, many_in}
 use Rattle.hb_codec.specs.PlaceReaders.{space_rank, group_rank, place_rank, places, space_in, group_in, place_in}
-use Rattle.hb_codec.specs.LockReaders.{groups_from, keys_from, path_rank, paths, mode_of, first_level, whole_in, group_path_in, key_path_in, path_in, lock_in, lock_after}
+use Rattle.hb_codec.specs.LockReaders.{groups_from, keys_from, path_rank, paths, mode_of, first_level, whole_in, group_path_in, key_path_in, path_in, lock_in, lock_after, path_text, level_of as level}
 use Rattle.hb_codec.proofs.Calculus.{Reads, Bind, Pure, reads_bind, reads_pure, reads_same, reads_choice, choose}
 use Rattle.hb_codec.proofs.Digits.{IsNumber, digits, reads_number, by_test}
 use Rattle.hb_codec.proofs.Widths.{digits_one}
@@ -82,17 +82,7 @@ mode_small X = omega arith
 
 -- ---- one lock
 
-abbrev pub path_text : Path → List ℕ
-path_text (Whole s) = space_bytes s ++ two 0 ++ eight 0
-path_text (Group s g) = space_bytes s ++ two g ++ eight 0
-path_text (Key p) = place_bytes p
-
-abbrev pub level : Path → ℕ
-level (Whole s) = 1
-level (Group s g) = 2
-level (Key p) = 3
-
-lock_is : (p : Path) (m : Mode) → lock_bytes (record { path = p; mode = m }) ≡ level p ∷ mode_byte m ∷ path_text p
+pub lock_is : (p : Path) (m : Mode) → lock_bytes (record { path = p; mode = m }) ≡ level p ∷ mode_byte m ∷ path_text p
 lock_is (Whole s) m = refl
 lock_is (Group s g) m = refl
 lock_is (Key p) m = refl
@@ -117,10 +107,10 @@ pub record IsPathAt (k n least : ℕ) (p : Path) (bytes : List ℕ) : Type 0 whe
   pub above : least ≤ path_rank p
   pub below : path_rank p + n < paths
 
-level_of : (p : Path) → (1 ≤ level p) × (level p ≤ 3)
-level_of (Whole s) = (omega arith, omega arith)
-level_of (Group s g) = (omega arith, omega arith)
-level_of (Key p) = (omega arith, omega arith)
+level_within : (p : Path) → (1 ≤ level p) × (level p ≤ 3)
+level_within (Whole s) = (omega arith, omega arith)
+level_within (Group s g) = (omega arith, omega arith)
+level_within (Key p) = (omega arith, omega arith)
 
 module _ (n least : ℕ) (v : LeastFits (suc n) least) where
   Wholes : Path → List ℕ → Type 0
@@ -297,7 +287,7 @@ module _ (n least : ℕ) (v : LeastFits (suc n) least) where
   unfolding LockAt
   locks_from l bytes is =
       let p = l.path in
-      let k = level_of p in
+      let k = level_within p in
       record {
         value = level p;
         front = level p ∷ [];

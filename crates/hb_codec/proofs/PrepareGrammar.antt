@@ -1,6 +1,6 @@
 -- The body of a Prepare, and the reader of every body.
 use Rattle.std.proofs.Common.{◌≡◌, ◌⊎◌, inl, inr, ⊎_elim, ℕ, zero, suc, ◌+◌, ◌-◌, ◌*◌, ◌/◌, ◌≤◌, ◌<◌, Bool, true, false, cond, List, [], ◌∷◌, ◌++◌, length, drop, map, Result, Ok, Err, refl, sym, ◌∙◌, ap, subst, arith, append_assoc, length-append}
-use Rattle.std.specs.Prelude.{◌==◌, Option, Some, None}
+use Rattle.std.specs.Prelude.{◌==◌, All, Option, Some, None}
 use Rattle.std.specs.List.{AllByRecursion}
 use Rattle.std.specs.Ordering.{nat_cmp}
 use Rattle.std.proofs.lemmas.List.{append-nil}
@@ -10,6 +10,7 @@ use Rattle.hb_types.specs.declared.change.Change.{Change}
 use Rattle.hb_types.specs.declared.change.LogItem.{LogItem}
 use Rattle.hb_types.specs.declared.change.LogItem.TheVariants.{Prepare, Commit, Abort, Decision, Ids}
 use Rattle.hb_types.specs.declared.lock.Held.{Held}
+use Rattle.hb_types.specs.declared.names.NodeName.{NodeName}
 use Rattle.hb_types.specs.declared.names.Number.{Number}
 use Rattle.hb_types.specs.declared.names.Tx.{Tx}
 use Rattle.hb_types.specs.Lists.{joined}
@@ -31,7 +32,7 @@ use Rattle.hb_codec.proofs.Ranks.{Goes, goes_place, place_below}
 use Rattle.hb_codec.proofs.Ordered.{Above, AreItems, above_none, ascends_of, above_room}
 use Rattle.hb_codec.proofs.LockGrammar.{LockFits, goes_lock, lock_long, reads_locks}
 use Rattle.hb_codec.proofs.ChangeGrammar.{IsChangeAt, SlotFits, reads_change, change_is, fits_from, RowFits, row_part}
-use Rattle.hb_codec.proofs.RecordGrammar.{IsEight, reads_eight, eight_is, to_eight, last_is, Behind, tag_of, tagged, tag_is, reads_commit, reads_abort, reads_decision, reads_ids}
+use Rattle.hb_codec.proofs.RecordGrammar.{IsEight, reads_eight, eight_is, to_eight, last_is, Behind, tag_of, tagged, tag_is, reads_commit, reads_abort, reads_decision, reads_ids, few_nodes}
 
 -- ---- so many changes
 
@@ -145,7 +146,7 @@ prepare_is : (tx : Tx) (floor : Number) (locks : List Held) (changes : List Chan
 prepare_is tx floor locks changes =
     ap (λ (l : List ℕ). 1 ∷ (eight tx.0 ++ (eight floor.0 ++ (four (length locks) ++ l)))) (append_assoc (joined (map lock_bytes locks)) (four (length changes)) (joined (map change_bytes changes)))
 
-prepare_long : (tx : Tx) (floor : Number) (locks : List Held) (changes : List Change) → length (body_bytes (Prepare tx floor locks changes)) ≡ 25 + 16 * length locks + length (joined (map change_bytes changes))
+pub prepare_long : (tx : Tx) (floor : Number) (locks : List Held) (changes : List Change) → length (body_bytes (Prepare tx floor locks changes)) ≡ 25 + 16 * length locks + length (joined (map change_bytes changes))
 prepare_long tx floor locks changes =
     let l = locks_long locks in
     let c = joined (map change_bytes changes) in
@@ -344,3 +345,23 @@ reads_body =
           is_first = record { above = w.0; below = w.1; is = sym (digits_one (tag_of item) (omega (arith, w.1))) };
           is_second = (tags_are (tag_of item) item t.0 w.0 w.1).1 (subst (IsBodyOf item) whole is);
         }
+
+-- how long the lists of a record are
+pub record Short (locks : List Held) (changes : List Change) : Type 0 where
+  pub few_locks : length locks ≤ 524286
+  pub few_changes : length changes ≤ 559238
+  pub bytes : length (joined (map change_bytes changes)) ≤ 8388608
+  pub fit : All IsChange changes
+
+pub short_of : (item : LogItem) (tx : Tx) (floor : Number) (locks : List Held) (changes : List Change) → HasRecord item → item ≡ Prepare tx floor locks changes → Short locks changes
+short_of item tx floor locks changes has is =
+    let here : HasRecord (Prepare tx floor locks changes) = subst HasRecord is has in
+    let long = prepare_long tx floor locks changes in
+    let some = changes_long changes in
+    let short = here.1 in
+    record { few_locks = omega (arith, long, short); few_changes = omega (arith, long, short, some); bytes = omega (arith, long, short); fit = here.0.5 }
+
+pub nodes_of : (item : LogItem) (tx : Tx) (number : Number) (nodes : List NodeName) → HasRecord item → item ≡ Decision tx number nodes → length nodes ≤ 9
+nodes_of item tx number nodes has is =
+    let here : HasRecord (Decision tx number nodes) = subst HasRecord is has in
+    few_nodes tx number nodes here

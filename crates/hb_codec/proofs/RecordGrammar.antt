@@ -17,7 +17,7 @@ use Rattle.hb_types.specs.Lists.{Ascends, joined}
 use Rattle.hb_types.specs.Numbers.{IsNumber as IsLogNumber, four, eight}
 use Rattle.hb_types.specs.Places.{IsPath, path_cmp, place_cmp}
 use Rattle.hb_types.specs.Records.{lock_bytes, change_bytes, body_bytes, IsChange, HasRecord}
-use Rattle.hb_codec.specs.Spellings.{IsBodyOf}
+use Rattle.hb_codec.specs.Spellings.{IsBodyOf, node_text}
 use Rattle.hb_codec.specs.declared.changes.Slot.{Slot}
 use Rattle.hb_codec.specs.Readers.{◌>>=◌, number_in, many_in}
 use Rattle.hb_codec.specs.PlaceReaders.{place_rank, places}
@@ -161,9 +161,6 @@ reads_ids =
 
 -- ---- Decision
 
-abbrev node_text : NodeName → List ℕ
-node_text node = node.0 ∷ []
-
 abbrev NodeFits : NodeName → Type 0
 NodeFits node = (1 ≤ node.0) × (node.0 ≤ 9)
 
@@ -221,7 +218,7 @@ reads_nodes n few =
 goes_node : (x y : NodeName) → NodeFits x → NodeFits y → Goes (nat_cmp x.0 y.0) x.0 y.0
 goes_node x y a b = goes_nat x.0 y.0
 
-nodes_text : (xs : List NodeName) → joined (map node_text xs) ≡ map (λ n. n.0) xs
+pub nodes_text : (xs : List NodeName) → joined (map node_text xs) ≡ map (λ n. n.0) xs
 nodes_text [] = refl
 nodes_text (x ∷ xs) = ap (λ (l : List ℕ). x.0 ∷ l) (nodes_text xs)
 
@@ -259,6 +256,14 @@ decisions_to item back is =
       );
       spelled = ap (λ (l : List ℕ). 4 ∷ l) whole;
     })
+
+pub few_nodes : (tx : Tx) (number : Number) (nodes : List NodeName) → HasRecord (Decision tx number nodes) → length nodes ≤ 9
+few_nodes tx number nodes has =
+    let m = has.0 in
+    let fit = recursion_from_All NodeFits nodes m.4 in
+    let up = above_none (λ a b. nat_cmp a.0 b.0) node_rank NodeFits goes_node nodes fit m.2 1 (λ x f. f.0) in
+    let room = above_room node_rank NodeFits node_text 10 node_below 1 nodes fit up (omega arith) in
+    omega (arith, room)
 
 decisions_from : (item : LogItem) (back : List ℕ) → Behind 4 item back → Decisions item back
 unfolding Decisions

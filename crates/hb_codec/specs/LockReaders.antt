@@ -1,10 +1,12 @@
 -- Reading locks by ascending path, as long as there are paths for those that are left. A path's rank counts the paths below it.
-use Rattle.std.specs.Prelude.{◌≡◌, ℕ, ◌+◌, ◌-◌, min, nat_lt, ◌==◌, if◌then◌else◌, List, Result, Ok, Err}
+use Rattle.std.specs.Prelude.{◌≡◌, ℕ, ◌+◌, ◌-◌, min, nat_lt, ◌==◌, if◌then◌else◌, List, ◌++◌, Result, Ok, Err}
 use Rattle.hb_types.specs.declared.lock.Held.{Held}
 use Rattle.hb_types.specs.declared.lock.Mode.{Mode}
 use Rattle.hb_types.specs.declared.lock.Mode.TheVariants.{IS, IX, S, SIX, X}
 use Rattle.hb_types.specs.declared.places.Path.{Path}
 use Rattle.hb_types.specs.declared.places.Path.TheVariants.{Whole, Group, Key}
+use Rattle.hb_types.specs.Numbers.{two, eight}
+use Rattle.hb_types.specs.Records.{space_bytes, place_bytes}
 use Rattle.hb_codec.specs.Readers.{◌>>=◌, number_in}
 use Rattle.hb_codec.specs.PlaceReaders.{space_rank, group_rank, place_rank, places, space_in, group_in, place_in}
 
@@ -60,3 +62,14 @@ lock_in n least bytes = do
 
 abbrev pub lock_after : ℕ → ℕ → Held → ℕ
 lock_after n least lock = path_rank lock.path + 1
+
+-- a lock's bytes behind its level and mode
+abbrev pub path_text : Path → List ℕ
+path_text (Whole s) = space_bytes s ++ two 0 ++ eight 0
+path_text (Group s g) = space_bytes s ++ two g ++ eight 0
+path_text (Key p) = place_bytes p
+
+abbrev pub level_of : Path → ℕ
+level_of (Whole s) = 1
+level_of (Group s g) = 2
+level_of (Key p) = 3

@@ -104,7 +104,7 @@ fn change_at(alloc: Global, left: usize, slot: Slot, bytes: &[u8]) -> Result<(Ch
     Ok((Change { place, row }, rest))
 }
 
-fn size_of(change: &Change) -> usize
+pub(crate) fn size_of(change: &Change) -> usize
     ensures { result ≡ length (change_bytes change.now) }
 {
     match &change.row {

@@ -1,0 +1,7 @@
+use Rattle.std.proofs.Common.{◌≡◌, ◌++◌, take, map}
+use Rattle.hb_types.specs.Lists.{joined}
+use Rattle.hb_types.specs.Records.{change_bytes}
+use Rattle.hb_codec.proofs.writing.put_changes.Given as goal
+
+abbrev pub invariant-loop-change : goal.invariant-loop-change
+invariant-loop-change l = l.out.items ≡ l.initial.out.items ++ joined (map change_bytes (take l.change-index l.changes))

@@ -1,0 +1,133 @@
+// Bytes from outside, and each call once.
+use super::*;
+use hb_types::{Bytes, Change, Held, LogItem, Mode, NodeName, Number, Path, Place, Space, Text, Tx, Value};
+use sqlite_items::Items;
+use std::test::*;
+
+const ROW: [u8; 10] = [1, 2, 1, 5, 0, 0, 0, 2, 1, 0x65];
+
+const CHANGE: [u8; 27] = [
+    1, 1, 1, 0, 0x5c, 0, 5, 0, 0, 0, 0, 0, 0, 0, 1, 10, 0, 1, 2, 1, 5, 0, 0, 0, 2, 1, 0x65,
+];
+
+const COMMIT: [u8; 22] = [
+    0x11, 0, 0, 0, 2, 3, 0, 0, 0, 0, 0, 0, 0, 2, 0, 0, 0, 0, 0, 0, 0, 0,
+];
+
+const DECISION: [u8; 25] = [
+    0x14, 0, 0, 0, 4, 2, 0, 0, 0, 0, 0, 0, 0, 2, 0, 0, 0, 0, 0, 0, 0, 2, 1, 2, 0,
+];
+
+const PLACE: Place = Place {
+    space: Space {
+        area: 257,
+        table: 1,
+    },
+    group: 92,
+    key: 5,
+};
+
+fn change(rt: &HostRuntime) -> Result<Change, Fail> {
+    let row = Vec::from_slice(rt.alloc(), &ROW).ok().ok_or("no memory")?;
+    Ok(Change {
+        place: PLACE,
+        row: Some(Bytes::new(row)),
+    })
+}
+
+#[test]
+fn row(rt: HostRuntime) -> Result<(), Fail> {
+    let text = Vec::from_slice(rt.alloc(), b"e").ok().ok_or("no memory")?;
+    let values = [Value::Int(5), Value::Text(Text::new(text))];
+    let bytes = encode_row(rt.alloc(), &values).ok().ok_or("no memory")?;
+    assert_eq!(rt; bytes.as_slice(), ROW.as_slice());
+    let values = decode_row(rt.alloc(), &ROW).ok().ok_or("the bytes are a row")?;
+    let again = encode_row(rt.alloc(), values.as_slice()).ok().ok_or("no memory")?;
+    assert_eq!(rt; again.as_slice(), ROW.as_slice());
+    Ok(())
+}
+
+#[test]
+fn no_row(rt: HostRuntime) {
+    assert!(rt;
+        matches!(
+            decode_row(rt.alloc(), &[1, 1, 3]),
+            Err(CodecFault::NotARecord { place: 2 })
+        )
+    );
+}
+
+#[test]
+fn one_change(rt: HostRuntime) -> Result<(), Fail> {
+    let change = change(&rt)?;
+    let bytes = encode_change(rt.alloc(), &change).ok().ok_or("no memory")?;
+    assert_eq!(rt; bytes.as_slice(), CHANGE.as_slice());
+    let (again, used) = decode_change(rt.alloc(), &CHANGE).ok().ok_or("the bytes are a change")?;
+    assert_eq!(rt; used, 27);
+    assert!(rt; again.place == PLACE);
+    // A row of 3 bytes is none.
+    let mut short = CHANGE;
+    short[15] = 3;
+    assert!(rt;
+        matches!(
+            decode_change(rt.alloc(), &short),
+            Err(CodecFault::NotARecord { place: 16 })
+        )
+    );
+    Ok(())
+}
+
+#[test]
+fn commit(rt: HostRuntime) -> Result<(), Fail> {
+    let item = LogItem::Commit {
+        tx: Tx(3),
+        number: Number(2),
+    };
+    let framed = encode_record(rt.alloc(), &item).ok().ok_or("no memory")?;
+    assert_eq!(rt; framed.as_slice(), COMMIT.as_slice());
+    assert!(rt; decode_record(rt.alloc(), &COMMIT[4..21]).is_ok());
+    Ok(())
+}
+
+#[test]
+fn decision(rt: HostRuntime) -> Result<(), Fail> {
+    let nodes = Items::from_slice(rt.alloc(), &[NodeName(1), NodeName(2)]).ok().ok_or("no memory")?;
+    let item = LogItem::Decision {
+        tx: Tx(2),
+        number: Number(2),
+        nodes,
+    };
+    let framed = encode_record(rt.alloc(), &item).ok().ok_or("no memory")?;
+    assert_eq!(rt; framed.as_slice(), DECISION.as_slice());
+    assert!(rt; decode_record(rt.alloc(), &DECISION[4..24]).is_ok());
+    Ok(())
+}
+
+#[test]
+fn prepare(rt: HostRuntime) -> Result<(), Fail> {
+    let space = Held {
+        path: Path::Whole(PLACE.space),
+        mode: Mode::IX,
+    };
+    let key = Held {
+        path: Path::Key(PLACE),
+        mode: Mode::X,
+    };
+    let locks = Items::from_slice(rt.alloc(), &[space, key]).ok().ok_or("no memory")?;
+    let mut changes = Items::new(rt.alloc());
+    changes.push(change(&rt)?).ok().ok_or("no memory")?;
+    let item = LogItem::Prepare {
+        tx: Tx(7),
+        floor: Number(0),
+        locks,
+        changes,
+    };
+    let framed = encode_record(rt.alloc(), &item).ok().ok_or("no memory")?;
+    // 1 + 8 + 8 + 4 + 2 * 16 + 4 + 27 bytes of body
+    assert_eq!(rt; framed.as_slice().len(), 4 + 84 + 1);
+    let body = &framed.as_slice()[4..88];
+    let again = decode_record(rt.alloc(), body).ok().ok_or("the bytes are a record")?;
+    let framed_again = encode_record(rt.alloc(), &again).ok().ok_or("no memory")?;
+    assert_eq!(rt; framed_again.as_slice(), framed.as_slice());
+    Ok(())
+}
