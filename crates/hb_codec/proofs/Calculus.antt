@@ -74,9 +74,11 @@ module _ {X Y : Type 0} (first : X → List ℕ → Type 0) (second : X → Y �
   sound_at bytes y rest (Err left) e f = absurd cc
   sound_at bytes y rest (Ok p) e f =
       let one = fst.sound bytes p.0 p.1 e in
-      let two = (snd p.0 one.0 one.2).sound p.1 y rest f in
-      (one.0 ++ two.0, one.1 ∙ ap (λ (l : List ℕ). one.0 ++ l) two.1 ∙ sym (append_assoc one.0 two.0 rest),
-      record { value = p.0; front = one.0; back = two.0; split = refl; is_first = one.2; is_second = two.2 })
+      let two = (snd p.0 one.0 one.2).sound p.1 y rest f in (
+        one.0 ++ two.0,
+        one.1 ∙ ap (λ (l : List ℕ). one.0 ++ l) two.1 ∙ sym (append_assoc one.0 two.0 rest),
+        record { value = p.0; front = one.0; back = two.0; split = refl; is_first = one.2; is_second = two.2 },
+      )
 
   complete_at : (y : Y) (front rest : List ℕ) → Bind first second y front → both (front ++ rest) ≡ Ok (y, rest)
   complete_at y front rest is =

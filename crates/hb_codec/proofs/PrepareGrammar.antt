@@ -184,8 +184,14 @@ prepares_to item back is =
     subst (λ (x : LogItem). Behind 1 x back) (sym w.is_second.is)
     (record {
       fits = (
-        ((is.is_first.above, is.is_first.below), s.is_first.below, All-from_recursion LockFits locks ls.fit, ascends_of (λ a b. path_cmp a.path b.path) lock_rank LockFits goes_lock 0 locks ls.fit ls.up,
-        ascends_of (λ a b. place_cmp a.place b.place) change_rank IsChange goes_change 0 changes cs.fit cs.up, All-from_recursion IsChange changes cs.fit),
+        (
+          (is.is_first.above, is.is_first.below),
+          s.is_first.below,
+          All-from_recursion LockFits locks ls.fit,
+          ascends_of (λ a b. path_cmp a.path b.path) lock_rank LockFits goes_lock 0 locks ls.fit ls.up,
+          ascends_of (λ a b. place_cmp a.place b.place) change_rank IsChange goes_change 0 changes cs.fit cs.up,
+          All-from_recursion IsChange changes cs.fit,
+        ),
         omega (arith, long, used, ls.count, count_high),
       );
       spelled = ap (λ (l : List ℕ). 1 ∷ l) whole ∙ sym (prepare_is (record { 0 = tx }) (record { 0 = floor }) locks changes);
