@@ -1,9 +1,8 @@
 -- Laws of reading: readers that meet their grammars, one after another.
-use Rattle.std.proofs.Common.{◌≡◌, ◌⊎◌, inl, inr, ⊎_elim, ℕ, zero, suc, ◌+◌, ◌-◌, ◌≤◌, Bool, true, false, cond, List, [], ◌∷◌, ◌++◌, length, take, drop, replicate, Result, Ok, Err, refl, sym, ◌∙◌, ap, subst, arith, append_assoc, length-append, take-append-drop, ltb, leb}
-use Rattle.std.proofs.lemmas.List.{append-nil, append_cancel_left, take_at, drop_at, length-take, length-drop, length-replicate}
-use Rattle.std.proofs.lemmas.Bool.{leb-true, le-leb, leb-false}
+use Rattle.std.proofs.Common.{◌≡◌, ◌⊎◌, inl, inr, ⊎_elim, ℕ, ◌+◌, ◌-◌, ◌≤◌, Bool, true, false, cond, List, [], ◌∷◌, ◌++◌, length, take, drop, Result, Ok, Err, refl, sym, ◌∙◌, ap, subst, arith, append_assoc, length-append, take-append-drop}
+use Rattle.std.proofs.lemmas.List.{append-nil, take_at, length-drop}
 use Rattle.hb_codec.specs.Reading.{Begins, IsPlace, Misreads, Misspells, Finds, OneForm}
-use Rattle.hb_codec.specs.Readers.{◌>>=◌, byte_in, exactly_in, Tells, TellsFront}
+use Rattle.hb_codec.specs.Readers.{◌>>=◌, Tells, TellsFront}
 use Rattle.hb_codec.specs.declared.fault.CodecFault.{CodecFault}
 use Rattle.hb_codec.specs.declared.fault.CodecFault.TheVariants as codec
 use Rattle.std.specs.Prelude.{IfOk, IsErrOf}
