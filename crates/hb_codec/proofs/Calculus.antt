@@ -1,9 +1,8 @@
 -- Laws of reading: readers that meet their grammars, one after another.
-use Rattle.std.proofs.Common.{◌≡◌, ◌⊎◌, inl, inr, ⊎_elim, ℕ, zero, suc, ◌+◌, ◌-◌, ◌≤◌, Bool, true, false, cond, List, [], ◌∷◌, ◌++◌, length, take, drop, replicate, Result, Ok, Err, refl, sym, ◌∙◌, ap, subst, arith, append_assoc, length-append, take-append-drop, ltb, leb}
-use Rattle.std.proofs.lemmas.List.{append-nil, append_cancel_left, take_at, drop_at, length-take, length-drop, length-replicate}
-use Rattle.std.proofs.lemmas.Bool.{leb-true, le-leb, leb-false}
+use Rattle.std.proofs.Common.{◌≡◌, ◌⊎◌, inl, inr, ⊎_elim, ℕ, ◌+◌, ◌-◌, ◌≤◌, Bool, true, false, cond, List, [], ◌∷◌, ◌++◌, length, take, drop, Result, Ok, Err, refl, sym, ◌∙◌, ap, subst, arith, append_assoc, length-append, take-append-drop}
+use Rattle.std.proofs.lemmas.List.{append-nil, take_at, length-drop}
 use Rattle.hb_codec.specs.Reading.{Begins, IsPlace, Misreads, Misspells, Finds, OneForm}
-use Rattle.hb_codec.specs.Readers.{◌>>=◌, byte_in, exactly_in, Tells, TellsFront}
+use Rattle.hb_codec.specs.Readers.{◌>>=◌, Tells, TellsFront}
 use Rattle.hb_codec.specs.declared.fault.CodecFault.{CodecFault}
 use Rattle.hb_codec.specs.declared.fault.CodecFault.TheVariants as codec
 use Rattle.std.specs.Prelude.{IfOk, IsErrOf}
@@ -74,9 +73,11 @@ module _ {X Y : Type 0} (first : X → List ℕ → Type 0) (second : X → Y �
   sound_at bytes y rest (Err left) e f = absurd cc
   sound_at bytes y rest (Ok p) e f =
       let one = fst.sound bytes p.0 p.1 e in
-      let two = (snd p.0 one.0 one.2).sound p.1 y rest f in
-      (one.0 ++ two.0, one.1 ∙ ap (λ (l : List ℕ). one.0 ++ l) two.1 ∙ sym (append_assoc one.0 two.0 rest),
-      record { value = p.0; front = one.0; back = two.0; split = refl; is_first = one.2; is_second = two.2 })
+      let two = (snd p.0 one.0 one.2).sound p.1 y rest f in (
+        one.0 ++ two.0,
+        one.1 ∙ ap (λ (l : List ℕ). one.0 ++ l) two.1 ∙ sym (append_assoc one.0 two.0 rest),
+        record { value = p.0; front = one.0; back = two.0; split = refl; is_first = one.2; is_second = two.2 },
+      )
 
   complete_at : (y : Y) (front rest : List ℕ) → Bind first second y front → both (front ++ rest) ≡ Ok (y, rest)
   complete_at y front rest is =

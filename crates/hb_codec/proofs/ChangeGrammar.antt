@@ -1,22 +1,20 @@
 -- Changes by ascending place, and their readers.
-use Rattle.std.proofs.Common.{◌≡◌, ◌⊎◌, inl, inr, ⊎_elim, ℕ, zero, suc, ◌+◌, ◌-◌, ◌*◌, ◌/◌, ◌%◌, ◌≤◌, ◌<◌, min, Bool, true, false, cond, List, [], ◌∷◌, ◌++◌, length, take, drop, map, Result, Ok, Err, refl, sym, ◌∙◌, ap, subst, arith, append_assoc, length-append}
-use Rattle.std.specs.Prelude.{◌==◌, nat_le, nat_lt, ◌&&◌, ◌||◌, Option, Some, None}
+use Rattle.std.proofs.Common.{◌≡◌, ◌⊎◌, inl, inr, ⊎_elim, ℕ, zero, suc, ◌+◌, ◌-◌, ◌*◌, ◌/◌, ◌%◌, ◌≤◌, ◌<◌, min, Bool, true, false, cond, List, [], ◌∷◌, ◌++◌, length, take, Result, Ok, Err, refl, sym, ◌∙◌, ap, subst, arith, length-append}
+use Rattle.std.specs.Prelude.{◌==◌, nat_le, nat_lt, Option, Some, None}
 use Rattle.std.proofs.lemmas.List.{append-nil, take_at}
 use Rattle.std.proofs.lemmas.List.Elements.{All-from_recursion, recursion_from_All}
-use Rattle.std.proofs.lemmas.Bool.{leb-true, le-leb, leb-false, ltb-true, lt-ltb, and_parts, and_from, eqb-true, eq-eqb}
+use Rattle.std.proofs.lemmas.Bool.{leb-true, le-leb, ltb-true, lt-ltb, and_parts, and_from, eqb-true}
 use Rattle.hb_types.specs.declared.change.Change.{Change}
 use Rattle.hb_types.specs.declared.places.Place.{Place}
-use Rattle.hb_types.specs.declared.value.Value.{Value}
 use Rattle.hb_types.specs.Numbers.{two}
 use Rattle.hb_types.specs.Places.{IsPlace}
 use Rattle.hb_types.specs.Records.{place_bytes, change_bytes, IsChange}
-use Rattle.hb_types.specs.Rows.{HasBytes, IsRow, IsRowOf, row_bytes}
+use Rattle.hb_types.specs.Rows.{HasBytes, IsRow}
 use Rattle.hb_codec.specs.declared.changes.Slot.{Slot}
-use Rattle.hb_codec.specs.Reading.{Begins}
 use Rattle.hb_codec.specs.Readers.{◌>>=◌, byte_in, number_in, most_above, behind}
 use Rattle.hb_codec.specs.RowReaders.{row_in}
 use Rattle.hb_codec.specs.PlaceReaders.{place_rank, places, place_in}
-use Rattle.hb_codec.specs.ChangeReaders.{pages, length_fits, row_length_in, row_bytes_in, some_row_in, row_part_in, change_in, slot_after, whole_slot}
+use Rattle.hb_codec.specs.ChangeReaders.{pages, length_fits, row_length_in, row_bytes_in, some_row_in, row_part_in, change_in, whole_slot}
 use Rattle.hb_codec.specs.Spellings.{IsChangeOf}
 use Rattle.hb_codec.proofs.Ranks.{place_below}
 use Rattle.hb_codec.proofs.Calculus.{Reads, Stops, Bind, Pure, done, ok_is, reads_bind, reads_pure, reads_same, reads_choice, choose}

@@ -1,31 +1,29 @@
 -- Locks by ascending path, and their readers.
-use Rattle.std.proofs.Common.{◌≡◌, ◌⊎◌, inl, inr, ⊎_elim, ℕ, zero, suc, ◌+◌, ◌-◌, min, ◌≤◌, ◌<◌, Bool, true, false, cond, List, [], ◌∷◌, ◌++◌, length, drop, map, Result, Ok, Err, refl, sym, ◌∙◌, ap, subst, arith, length-append}
-use Rattle.std.specs.Prelude.{◌==◌, nat_lt}
-use Rattle.std.specs.List.{AllByRecursion}
+use Rattle.std.proofs.Common.{◌≡◌, ◌⊎◌, inl, inr, ⊎_elim, ℕ, zero, suc, ◌+◌, ◌-◌, min, ◌≤◌, ◌<◌, Bool, true, false, cond, List, [], ◌∷◌, ◌++◌, length, Ok, refl, sym, ◌∙◌, ap, subst, arith}
+use Rattle.std.specs.Prelude.{nat_lt}
 use Rattle.std.specs.Ordering.{nat_cmp, ordering_then}
 use Rattle.std.specs.declared.cmp.Ordering.{Ordering}
 use Rattle.std.specs.declared.cmp.Ordering.TheVariants.{Less, Equal, Greater}
 use Rattle.std.proofs.lemmas.List.{append-nil}
-use Rattle.std.proofs.lemmas.Bool.{ltb-true, lt-ltb, ltb-false, eqb-true, eq-eqb}
+use Rattle.std.proofs.lemmas.Bool.{ltb-true, lt-ltb}
 use Rattle.hb_types.specs.declared.lock.Held.{Held}
 use Rattle.hb_types.specs.declared.lock.Mode.{Mode}
 use Rattle.hb_types.specs.declared.lock.Mode.TheVariants.{IS, IX, S, SIX, X}
 use Rattle.hb_types.specs.declared.places.Path.{Path}
 use Rattle.hb_types.specs.declared.places.Path.TheVariants.{Whole, Group, Key}
-use Rattle.hb_types.specs.Lists.{joined}
 use Rattle.hb_types.specs.Numbers.{two, eight}
 use Rattle.hb_types.specs.Places.{path_cmp, place_cmp, space_cmp, IsPath}
 use Rattle.hb_types.specs.Records.{space_bytes, place_bytes, mode_byte, lock_bytes}
 use Rattle.hb_codec.specs.Readers.{◌>>=◌, number_in, many_in}
-use Rattle.hb_codec.specs.PlaceReaders.{space_rank, group_rank, place_rank, places, space_in, group_in, place_in}
+use Rattle.hb_codec.specs.PlaceReaders.{group_rank, place_rank, places, space_in, group_in, place_in}
 use Rattle.hb_codec.specs.LockReaders.{groups_from, keys_from, path_rank, paths, mode_of, first_level, whole_in, group_path_in, key_path_in, path_in, lock_in, lock_after, path_text, level_of as level}
-use Rattle.hb_codec.proofs.Calculus.{Reads, Bind, Pure, reads_bind, reads_pure, reads_same, reads_choice, choose}
+use Rattle.hb_codec.proofs.Calculus.{Reads, Bind, Pure, reads_bind, reads_pure, reads_same}
 use Rattle.hb_codec.proofs.Digits.{IsNumber, digits, reads_number, by_test}
 use Rattle.hb_codec.proofs.Widths.{digits_one}
 use Rattle.hb_codec.proofs.Lists.{Many, reads_many}
 use Rattle.hb_codec.proofs.Ranks.{Goes, goes_space, goes_group, goes_place, space_below, group_below, place_below}
 use Rattle.hb_codec.proofs.PlaceGrammar.{IsSpaceIn, IsGroupIn, IsPlaceIn, reads_space, reads_group, reads_place}
-use Rattle.hb_codec.proofs.Ordered.{Above, IsItemAt, AreItems, items_to, items_from}
+use Rattle.hb_codec.proofs.Ordered.{IsItemAt, AreItems, items_to, items_from}
 
 -- ---- paths in their order
 

@@ -1,10 +1,10 @@
 -- What reading a number gives at its first byte.
-use Rattle.std.proofs.Common.{◌≡◌, ℕ, zero, suc, ◌+◌, ◌-◌, ◌*◌, ◌≤◌, ◌<◌, Bool, true, false, List, [], ◌∷◌, length, drop, get_or, Result, Ok, Err, refl, sym, ◌∙◌, ap, subst, arith}
-use Rattle.std.specs.Prelude.{nat_lt, nat_le, ◌&&◌, IfOk}
-use Rattle.std.proofs.lemmas.Bool.{leb-true, le-leb, leb-false, ltb-true, lt-ltb, and_parts, and_from}
+use Rattle.std.proofs.Common.{◌≡◌, ℕ, zero, suc, ◌+◌, ◌-◌, ◌*◌, ◌≤◌, ◌<◌, true, false, List, [], ◌∷◌, length, drop, get_or, Result, Ok, Err, refl, sym, ◌∙◌, ap, subst, arith}
+use Rattle.std.specs.Prelude.{nat_lt, nat_le, ◌&&◌}
+use Rattle.std.proofs.lemmas.Bool.{leb-true, le-leb, lt-ltb, and_parts, and_from}
 use Rattle.hb_codec.specs.declared.fault.ReadFault.{ReadFault}
 use Rattle.hb_codec.specs.declared.fault.ReadFault.TheVariants as fault
-use Rattle.hb_codec.specs.Readers.{◌>>=◌, Gives, Fails, byte_in, digit, least_above, most_above, digit_fits, fits_at, number_in}
+use Rattle.hb_codec.specs.Readers.{◌>>=◌, Fails, digit, least_above, most_above, digit_fits, fits_at, number_in}
 use Rattle.hb_codec.proofs.Digits.{by_test}
 
 pub number_none : (turn width low high : ℕ) (bytes : List ℕ) → width ≡ 0 → number_in turn width low high bytes ≡ Ok (0, bytes)

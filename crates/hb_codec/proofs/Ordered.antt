@@ -2,10 +2,8 @@
 use Rattle.std.proofs.Common.{◌≡◌, ℕ, zero, suc, ◌+◌, ◌≤◌, ◌<◌, List, [], ◌∷◌, ◌++◌, length, map, refl, sym, ◌∙◌, ap, subst, arith}
 use Rattle.std.specs.List.{AllByRecursion}
 use Rattle.std.specs.declared.cmp.Ordering.{Ordering}
-use Rattle.std.specs.declared.cmp.Ordering.TheVariants.{Less}
 use Rattle.hb_types.specs.Lists.{Ascends, joined}
-use Rattle.hb_codec.proofs.Calculus.{Pure}
-use Rattle.hb_codec.proofs.Lists.{Many, Parts, parts, cons}
+use Rattle.hb_codec.proofs.Lists.{Many, parts, cons}
 use Rattle.hb_codec.proofs.Ranks.{Goes, less_of, of_less}
 
 -- ranks ascend strictly, from a least one on

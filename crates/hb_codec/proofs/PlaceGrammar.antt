@@ -1,5 +1,5 @@
 -- Places between two ranks, and their readers.
-use Rattle.std.proofs.Common.{◌≡◌, ◌⊎◌, inl, inr, ℕ, suc, ◌+◌, ◌-◌, ◌*◌, ◌/◌, ◌%◌, ◌≤◌, ◌<◌, min, List, [], ◌∷◌, ◌++◌, length, Result, Ok, Err, refl, sym, ◌∙◌, ap, subst, arith, append_assoc}
+use Rattle.std.proofs.Common.{◌≡◌, inl, inr, ℕ, ◌/◌, ◌≤◌, ◌<◌, List, [], ◌++◌, Ok, refl, sym, ◌∙◌, ap, subst, arith}
 use Rattle.std.proofs.lemmas.List.{append-nil}
 use Rattle.hb_types.specs.declared.places.Space.{Space}
 use Rattle.hb_types.specs.declared.places.Place.{Place}
@@ -11,7 +11,7 @@ use Rattle.hb_codec.specs.PlaceReaders.{key_rank, key_of, space_rank, group_rank
 use Rattle.hb_codec.proofs.Calculus.{Reads, Bind, Pure, reads_bind, reads_pure, reads_same}
 use Rattle.hb_codec.proofs.Digits.{IsNumber, reads_number}
 use Rattle.hb_codec.proofs.Widths.{digits_two}
-use Rattle.hb_codec.proofs.Ranks.{rank_of_key, key_of_rank, key_fits, key_small, digits_key, space_below, group_below}
+use Rattle.hb_codec.proofs.Ranks.{rank_of_key, key_of_rank, key_fits, key_small, digits_key}
 
 -- two parts, and nothing behind them
 pub behind_both : {bytes front back f : List ℕ} {a b : List ℕ} → bytes ≡ front ++ back → front ≡ a → back ≡ f ++ [] → f ≡ b → bytes ≡ a ++ b

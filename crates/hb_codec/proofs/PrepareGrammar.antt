@@ -1,11 +1,9 @@
 -- The body of a Prepare, and the reader of every body.
-use Rattle.std.proofs.Common.{◌≡◌, ◌⊎◌, inl, inr, ⊎_elim, ℕ, zero, suc, ◌+◌, ◌-◌, ◌*◌, ◌/◌, ◌≤◌, ◌<◌, Bool, true, false, cond, List, [], ◌∷◌, ◌++◌, length, drop, map, Result, Ok, Err, refl, sym, ◌∙◌, ap, subst, arith, append_assoc, length-append}
+use Rattle.std.proofs.Common.{◌≡◌, inl, ℕ, zero, suc, ◌+◌, ◌*◌, ◌/◌, ◌≤◌, ◌<◌, cond, List, [], ◌∷◌, ◌++◌, length, drop, map, Result, Ok, refl, sym, ◌∙◌, ap, subst, arith, append_assoc, length-append}
 use Rattle.std.specs.Prelude.{◌==◌, All, Option, Some, None}
 use Rattle.std.specs.List.{AllByRecursion}
-use Rattle.std.specs.Ordering.{nat_cmp}
 use Rattle.std.proofs.lemmas.List.{append-nil}
 use Rattle.std.proofs.lemmas.List.Elements.{All-from_recursion, recursion_from_All}
-use Rattle.std.proofs.lemmas.Bool.{eqb-true, eq-eqb}
 use Rattle.hb_types.specs.declared.change.Change.{Change}
 use Rattle.hb_types.specs.declared.change.LogItem.{LogItem}
 use Rattle.hb_types.specs.declared.change.LogItem.TheVariants.{Prepare, Commit, Abort, Decision, Ids}
@@ -15,7 +13,7 @@ use Rattle.hb_types.specs.declared.names.Number.{Number}
 use Rattle.hb_types.specs.declared.names.Tx.{Tx}
 use Rattle.hb_types.specs.Lists.{joined}
 use Rattle.hb_types.specs.Numbers.{four, eight}
-use Rattle.hb_types.specs.Places.{IsPath, path_cmp, place_cmp}
+use Rattle.hb_types.specs.Places.{path_cmp, place_cmp}
 use Rattle.hb_types.specs.Records.{lock_bytes, change_bytes, body_bytes, IsChange, HasRecord}
 use Rattle.hb_codec.specs.Spellings.{IsBodyOf}
 use Rattle.hb_codec.specs.declared.changes.Slot.{Slot}
@@ -25,13 +23,13 @@ use Rattle.hb_codec.specs.LockReaders.{path_rank, lock_in, lock_after}
 use Rattle.hb_codec.specs.ChangeReaders.{change_in, slot_after}
 use Rattle.hb_codec.specs.RecordReaders.{greatest, room_behind, prepare_in, commit_in, abort_in, decision_in, ids_in, tagged_in, body_in}
 use Rattle.hb_codec.proofs.Calculus.{Reads, Bind, Pure, reads_bind, reads_pure, reads_same, reads_choice, choose}
-use Rattle.hb_codec.proofs.Digits.{IsNumber, reads_number, by_test}
+use Rattle.hb_codec.proofs.Digits.{IsNumber, reads_number}
 use Rattle.hb_codec.proofs.Widths.{digits_one, digits_four}
-use Rattle.hb_codec.proofs.Lists.{Many, Parts, parts, cons, reads_many}
+use Rattle.hb_codec.proofs.Lists.{Many, parts, cons, reads_many}
 use Rattle.hb_codec.proofs.Ranks.{Goes, goes_place, place_below}
 use Rattle.hb_codec.proofs.Ordered.{Above, AreItems, above_none, ascends_of, above_room}
 use Rattle.hb_codec.proofs.LockGrammar.{LockFits, goes_lock, lock_long, reads_locks}
-use Rattle.hb_codec.proofs.ChangeGrammar.{IsChangeAt, SlotFits, reads_change, change_is, fits_from, RowFits, row_part}
+use Rattle.hb_codec.proofs.ChangeGrammar.{IsChangeAt, SlotFits, reads_change, change_is, fits_from, row_part}
 use Rattle.hb_codec.proofs.RecordGrammar.{IsEight, reads_eight, eight_is, to_eight, last_is, Behind, tag_of, tagged, tag_is, reads_commit, reads_abort, reads_decision, reads_ids, few_nodes}
 
 -- ---- so many changes
@@ -184,8 +182,14 @@ prepares_to item back is =
     subst (λ (x : LogItem). Behind 1 x back) (sym w.is_second.is)
     (record {
       fits = (
-        ((is.is_first.above, is.is_first.below), s.is_first.below, All-from_recursion LockFits locks ls.fit, ascends_of (λ a b. path_cmp a.path b.path) lock_rank LockFits goes_lock 0 locks ls.fit ls.up,
-        ascends_of (λ a b. place_cmp a.place b.place) change_rank IsChange goes_change 0 changes cs.fit cs.up, All-from_recursion IsChange changes cs.fit),
+        (
+          (is.is_first.above, is.is_first.below),
+          s.is_first.below,
+          All-from_recursion LockFits locks ls.fit,
+          ascends_of (λ a b. path_cmp a.path b.path) lock_rank LockFits goes_lock 0 locks ls.fit ls.up,
+          ascends_of (λ a b. place_cmp a.place b.place) change_rank IsChange goes_change 0 changes cs.fit cs.up,
+          All-from_recursion IsChange changes cs.fit,
+        ),
         omega (arith, long, used, ls.count, count_high),
       );
       spelled = ap (λ (l : List ℕ). 1 ∷ l) whole ∙ sym (prepare_is (record { 0 = tx }) (record { 0 = floor }) locks changes);

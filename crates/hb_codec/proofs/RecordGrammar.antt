@@ -1,37 +1,25 @@
 -- The bodies of records, and their readers.
-use Rattle.std.proofs.Common.{◌≡◌, ◌⊎◌, inl, inr, ⊎_elim, ℕ, zero, suc, ◌+◌, ◌-◌, ◌*◌, ◌/◌, ◌≤◌, ◌<◌, Bool, true, false, cond, List, [], ◌∷◌, ◌++◌, length, drop, map, Result, Ok, Err, refl, sym, ◌∙◌, ap, subst, arith, append_assoc, length-append}
-use Rattle.std.specs.Prelude.{◌==◌}
-use Rattle.std.specs.List.{AllByRecursion}
+use Rattle.std.proofs.Common.{◌≡◌, inl, ℕ, suc, ◌+◌, ◌-◌, ◌≤◌, ◌<◌, List, [], ◌∷◌, ◌++◌, length, drop, map, Ok, refl, sym, ◌∙◌, ap, subst, arith}
 use Rattle.std.specs.Ordering.{nat_cmp}
 use Rattle.std.proofs.lemmas.List.{append-nil}
 use Rattle.std.proofs.lemmas.List.Elements.{All-from_recursion, recursion_from_All}
-use Rattle.std.proofs.lemmas.Bool.{eqb-true, eq-eqb}
-use Rattle.hb_types.specs.declared.change.Change.{Change}
 use Rattle.hb_types.specs.declared.change.LogItem.{LogItem}
 use Rattle.hb_types.specs.declared.change.LogItem.TheVariants.{Prepare, Commit, Abort, Decision, Ids}
-use Rattle.hb_types.specs.declared.lock.Held.{Held}
 use Rattle.hb_types.specs.declared.names.NodeName.{NodeName}
 use Rattle.hb_types.specs.declared.names.Number.{Number}
 use Rattle.hb_types.specs.declared.names.Tx.{Tx}
-use Rattle.hb_types.specs.Lists.{Ascends, joined}
-use Rattle.hb_types.specs.Numbers.{IsNumber as IsLogNumber, four, eight}
-use Rattle.hb_types.specs.Places.{IsPath, path_cmp, place_cmp}
-use Rattle.hb_types.specs.Records.{lock_bytes, change_bytes, body_bytes, IsChange, HasRecord}
+use Rattle.hb_types.specs.Lists.{joined}
+use Rattle.hb_types.specs.Numbers.{eight}
+use Rattle.hb_types.specs.Records.{body_bytes, HasRecord}
 use Rattle.hb_codec.specs.Spellings.{IsBodyOf, node_text}
-use Rattle.hb_codec.specs.declared.changes.Slot.{Slot}
 use Rattle.hb_codec.specs.Readers.{◌>>=◌, number_in, many_in}
-use Rattle.hb_codec.specs.PlaceReaders.{place_rank, places}
-use Rattle.hb_codec.specs.LockReaders.{path_rank, paths, lock_in, lock_after}
-use Rattle.hb_codec.specs.ChangeReaders.{change_in, slot_after}
-use Rattle.hb_codec.specs.RecordReaders.{greatest, node_in, node_after, room_behind, prepare_in, commit_in, abort_in, decision_in, ids_in, tagged_in, body_in}
-use Rattle.hb_codec.proofs.Calculus.{Reads, Bind, Pure, reads_bind, reads_pure, reads_same, reads_choice, choose}
-use Rattle.hb_codec.proofs.Digits.{IsNumber, digits, reads_number, by_test}
-use Rattle.hb_codec.proofs.Widths.{digits_one, digits_four, digits_eight}
-use Rattle.hb_codec.proofs.Lists.{Many, Parts, parts, cons, reads_many}
-use Rattle.hb_codec.proofs.Ranks.{Goes, goes_nat, goes_place, place_below}
-use Rattle.hb_codec.proofs.Ordered.{Above, IsItemAt, AreItems, items_to, items_from, above_none, ascends_of, above_room}
-use Rattle.hb_codec.proofs.LockGrammar.{LockFits, goes_lock, path_below, lock_long, reads_locks}
-use Rattle.hb_codec.proofs.ChangeGrammar.{IsChangeAt, SlotFits, reads_change, change_is, fits_from, RowFits, row_part}
+use Rattle.hb_codec.specs.RecordReaders.{greatest, node_in, node_after, commit_in, abort_in, decision_in, ids_in}
+use Rattle.hb_codec.proofs.Calculus.{Reads, Bind, Pure, reads_bind, reads_pure, reads_same}
+use Rattle.hb_codec.proofs.Digits.{IsNumber, reads_number}
+use Rattle.hb_codec.proofs.Widths.{digits_one, digits_eight}
+use Rattle.hb_codec.proofs.Lists.{Many, reads_many}
+use Rattle.hb_codec.proofs.Ranks.{Goes, goes_nat}
+use Rattle.hb_codec.proofs.Ordered.{IsItemAt, AreItems, items_to, items_from, above_none, ascends_of, above_room}
 
 -- the numbers of a log
 abbrev pub IsEight : ℕ → ℕ → List ℕ → Type 0

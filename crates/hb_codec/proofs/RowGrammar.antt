@@ -1,24 +1,24 @@
 -- Rows: the values of a row, and readers that keep room for those that are left.
-use Rattle.std.proofs.Common.{◌≡◌, ◌⊎◌, inl, inr, ⊎_elim, ℕ, zero, suc, ◌+◌, ◌-◌, ◌*◌, ◌/◌, ◌≤◌, ◌<◌, min, Bool, true, false, cond, List, [], ◌∷◌, ◌++◌, length, map, Result, Ok, Err, refl, sym, ◌∙◌, ap, subst, arith, append_assoc, length-append}
-use Rattle.std.specs.Prelude.{◌==◌, nat_le, ◌&&◌, ℤ}
+use Rattle.std.proofs.Common.{◌≡◌, ◌⊎◌, inl, inr, ℕ, zero, suc, ◌+◌, ◌-◌, ◌*◌, ◌≤◌, ◌<◌, Bool, true, false, cond, List, [], ◌∷◌, ◌++◌, length, map, Ok, refl, sym, ◌∙◌, ap, subst, arith, length-append}
+use Rattle.std.specs.Prelude.{◌==◌, nat_le}
 use Rattle.std.specs.Int.{w32, cast_signed, cast_unsigned}
 use Rattle.std.specs.List.{AllByRecursion}
 use Rattle.std.proofs.lemmas.List.{append-nil}
-use Rattle.std.proofs.lemmas.Bool.{leb-true, le-leb, leb-false, and_parts, and_from, eqb-true, eq-eqb}
+use Rattle.std.proofs.lemmas.Bool.{leb-true, le-leb, and_parts, and_from, eqb-true, eq-eqb}
 use Rattle.std.proofs.lemmas.Int.{to_z-of_z, of_z-to_z}
 use Rattle.hb_types.specs.declared.value.Value.{Value}
 use Rattle.hb_types.specs.declared.value.Value.TheVariants.{Int, Text}
 use Rattle.hb_types.specs.Lists.{joined}
 use Rattle.hb_types.specs.Numbers.{signed_four, four}
 use Rattle.std.proofs.lemmas.List.Elements.{All-from_recursion, recursion_from_All}
-use Rattle.hb_types.specs.Rows.{value_bytes, row_bytes, HasBytes, HaveRow, IsRowOf}
+use Rattle.hb_types.specs.Rows.{value_bytes, row_bytes, HasBytes, IsRowOf}
 use Rattle.hb_codec.specs.declared.rows.Room.{Room}
 use Rattle.hb_codec.specs.Readers.{◌>>=◌, number_in, exactly_in, many_in}
 use Rattle.hb_codec.specs.RowReaders.{integer_fits, shortest_text, longest_text, integer_in, text_in, kind_in, value_in, room_after, fewest, most, row_in}
 use Rattle.hb_codec.proofs.Calculus.{Reads, Bind, Pure, reads_bind, reads_pure, reads_same, reads_choice, choose}
 use Rattle.hb_codec.proofs.Digits.{IsNumber, IsExactly, reads_number, reads_exactly, by_test}
 use Rattle.hb_codec.proofs.Widths.{digits_one, digits_four}
-use Rattle.hb_codec.proofs.Lists.{Many, Parts, parts, cons, reads_many}
+use Rattle.hb_codec.proofs.Lists.{Many, parts, cons, reads_many}
 use Rattle.hb_codec.proofs.Signed.{integer_fits_signed, signed_is_integer, unsigned_small}
 
 -- ---- one value

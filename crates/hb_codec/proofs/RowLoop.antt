@@ -1,5 +1,5 @@
 -- Passing over the values of a row, as a loop does.
-use Rattle.std.proofs.Common.{◌≡◌, ℕ, suc, List, [], ◌∷◌, length, Result, Ok, Err, refl, sym, ◌∙◌, ap, subst}
+use Rattle.std.proofs.Common.{◌≡◌, ℕ, suc, List, ◌∷◌, length, Result, Ok, Err, refl, sym, ◌∙◌, ap}
 use Rattle.hb_types.specs.declared.value.Value.{Value}
 use Rattle.hb_types.specs.Rows.{value_bytes}
 use Rattle.hb_codec.specs.declared.fault.ReadFault.{ReadFault}

@@ -1,6 +1,5 @@
 -- Digits as the bytes of numbers of two, four and eight bytes.
-use Rattle.std.proofs.Common.{◌≡◌, ℕ, ◌+◌, ◌-◌, ◌*◌, ◌/◌, ◌%◌, ◌^◌, ◌≤◌, ◌<◌, List, [], ◌∷◌, ◌++◌, length, refl, sym, ◌∙◌, ap, subst, arith, inl, inr}
-use Rattle.std.specs.Int.{to_le_bytes, from_le_bytes, w16, w32, w64, cast_signed, cast_unsigned}
+use Rattle.std.proofs.Common.{◌≡◌, ℕ, ◌+◌, ◌/◌, ◌%◌, ◌<◌, [], ◌∷◌, arith}
 use Rattle.hb_types.specs.Numbers.{two, four, eight}
 use Rattle.hb_codec.proofs.Digits.{digits}
 

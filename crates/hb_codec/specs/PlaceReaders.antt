@@ -1,5 +1,5 @@
 -- Reading places between two others. A place's rank counts the places below it.
-use Rattle.std.specs.Prelude.{◌≡◌, ℕ, ◌+◌, ◌-◌, ◌*◌, ◌/◌, ◌%◌, ◌^◌, min, ℤ, List, Result, Ok, Err}
+use Rattle.std.specs.Prelude.{ℕ, ◌+◌, ◌-◌, ◌*◌, ◌/◌, ◌%◌, min, ℤ, List, Result, Ok}
 use Rattle.std.specs.Int.{w64, cast_signed, cast_unsigned}
 use Rattle.hb_types.specs.declared.places.Space.{Space}
 use Rattle.hb_types.specs.declared.places.Place.{Place}

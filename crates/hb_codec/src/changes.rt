@@ -69,7 +69,11 @@ fn row_bytes_at(len: usize, bytes: &[u8]) -> Result<(&[u8], &[u8]), ReadFault>
 }
 
 #[tactic(auto, unfolding(crate::specs::ChangeReaders::some_row_in))]
-fn some_row_at(alloc: Global, room: usize, bytes: &[u8]) -> Result<(Option<Bytes>, &[u8]), ReadFault>
+fn some_row_at(
+    alloc: Global,
+    room: usize,
+    bytes: &[u8],
+) -> Result<(Option<Bytes>, &[u8]), ReadFault>
     ensures { Gives (λ x. (x.0, x.1.now)) result (some_row_in room bytes.now) }
 {
     let high = room.saturating_sub(3).min(4000) as u64;
@@ -81,7 +85,11 @@ fn some_row_at(alloc: Global, room: usize, bytes: &[u8]) -> Result<(Option<Bytes
 
 // A row or none, in so many bytes at most.
 #[tactic(auto, unfolding(crate::specs::ChangeReaders::row_part_in))]
-fn row_part_at(alloc: Global, room: usize, bytes: &[u8]) -> Result<(Option<Bytes>, &[u8]), ReadFault>
+fn row_part_at(
+    alloc: Global,
+    room: usize,
+    bytes: &[u8],
+) -> Result<(Option<Bytes>, &[u8]), ReadFault>
     ensures { Gives (λ x. (x.0, x.1.now)) result (row_part_in room bytes.now) }
 {
     let most = if room >= 5 { 1 } else { 0 };
@@ -94,7 +102,12 @@ fn row_part_at(alloc: Global, room: usize, bytes: &[u8]) -> Result<(Option<Bytes
 
 // A change before so many others.
 #[tactic(auto, unfolding(crate::specs::ChangeReaders::change_in))]
-fn change_at(alloc: Global, left: usize, slot: Slot, bytes: &[u8]) -> Result<(Change, &[u8]), ReadFault>
+fn change_at(
+    alloc: Global,
+    left: usize,
+    slot: Slot,
+    bytes: &[u8],
+) -> Result<(Change, &[u8]), ReadFault>
     requires { left ≤ 4294967295 }
     ensures { Gives (λ x. (x.0, x.1.now)) result (change_in left slot bytes.now) }
 {
@@ -123,7 +136,12 @@ fn slot_after(slot: Slot, change: &Change) -> Slot
 }
 
 // So many changes, in so many bytes at most.
-pub(crate) fn changes_at(alloc: Global, count: usize, room: usize, bytes: &[u8]) -> Result<(Items<Change>, &[u8]), ReadFault>
+pub(crate) fn changes_at(
+    alloc: Global,
+    count: usize,
+    room: usize,
+    bytes: &[u8],
+) -> Result<(Items<Change>, &[u8]), ReadFault>
     requires { count ≤ 4294967295 }
     ensures { Gives (λ x. (x.0, x.1.now)) result (many_in change_in slot_behind count (record { least = 0; room = room }) bytes.now) }
 {

@@ -12,6 +12,7 @@ use std::alloc::Global;
 
 // How many paths stand below the first group, and below the first key.
 const GROUPS_FROM: u128 = 4_294_967_296;
+
 const KEYS_FROM: u128 = 281_479_271_677_952;
 
 fn mode_of(byte: u64) -> Mode
@@ -115,7 +116,11 @@ fn least_after(lock: Held) -> u128
     path_rank(lock.path) + 1
 }
 
-pub(crate) fn locks_at(alloc: Global, count: usize, bytes: &[u8]) -> Result<(Items<Held>, &[u8]), ReadFault>
+pub(crate) fn locks_at(
+    alloc: Global,
+    count: usize,
+    bytes: &[u8],
+) -> Result<(Items<Held>, &[u8]), ReadFault>
     requires { count ≤ 4294967295 }
     ensures { Gives (λ x. (x.0, x.1.now)) result (many_in lock_in lock_after count 0 bytes.now) }
 {

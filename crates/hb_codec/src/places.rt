@@ -74,7 +74,11 @@ pub(crate) fn space_at(low: u64, high: u64, bytes: &[u8]) -> Result<(Space, &[u8
 }
 
 #[tactic(auto, unfolding(crate::specs::PlaceReaders::group_in))]
-pub(crate) fn group_at(low: u64, high: u64, bytes: &[u8]) -> Result<((Space, u16), &[u8]), ReadFault>
+pub(crate) fn group_at(
+    low: u64,
+    high: u64,
+    bytes: &[u8],
+) -> Result<((Space, u16), &[u8]), ReadFault>
     requires { high < 281474976710656 }
     ensures { Gives (λ x. (x.0, x.1.now)) result (group_in low high bytes.now) }
 {
@@ -91,7 +95,13 @@ pub(crate) fn place_at(low: u128, high: u128, bytes: &[u8]) -> Result<(Place, &[
 {
     let ((space, group), rest) = group_at((low / KEYS) as u64, (high / KEYS) as u64, bytes)?;
     let base = group_rank(space, group) as u128 * KEYS;
-    let (key, rest) = number_at(128, 8, inside_group(low, base), inside_group(high, base), rest)?;
+    let (key, rest) = number_at(
+        128,
+        8,
+        inside_group(low, base),
+        inside_group(high, base),
+        rest,
+    )?;
     let key = key_of(key);
     Ok((Place { space, group, key }, rest))
 }

@@ -27,7 +27,13 @@ fn least_above_digit(low: u64, digit: u64) -> u64
 }
 
 // A number from `low` to `high` in so many bytes, the lowest first; the highest is turned.
-pub(crate) fn number_at(turn: u8, width: usize, low: u64, high: u64, bytes: &[u8]) -> Result<(u64, &[u8]), ReadFault>
+pub(crate) fn number_at(
+    turn: u8,
+    width: usize,
+    low: u64,
+    high: u64,
+    bytes: &[u8],
+) -> Result<(u64, &[u8]), ReadFault>
     ensures number { Gives (λ x. (x.0, x.1.now)) result (number_in turn width low high bytes.now) }
     ensures within { IfOk result (λ x. x.0 ≤ high) }
 {

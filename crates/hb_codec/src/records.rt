@@ -31,7 +31,11 @@ fn node_at(left: usize, least: u64, bytes: &[u8]) -> Result<(NodeName, &[u8]), R
     Ok((NodeName(node as u8), rest))
 }
 
-fn nodes_at(alloc: Global, count: usize, bytes: &[u8]) -> Result<(Items<NodeName>, &[u8]), ReadFault>
+fn nodes_at(
+    alloc: Global,
+    count: usize,
+    bytes: &[u8],
+) -> Result<(Items<NodeName>, &[u8]), ReadFault>
     ensures { Gives (λ x. (x.0, x.1.now)) result (many_in node_in node_after count 1 bytes.now) }
 {
     let mut nodes = Vec::with_capacity(alloc, count.min(bytes.len()))?;

@@ -67,7 +67,12 @@ fn kind_at(left: usize, room: Room, bytes: &[u8]) -> Result<(u64, &[u8]), ReadFa
 
 // A value before so many others.
 #[tactic(auto, unfolding(crate::specs::RowReaders::value_in))]
-fn value_at(alloc: Global, left: usize, room: Room, bytes: &[u8]) -> Result<(Value, &[u8]), ReadFault>
+fn value_at(
+    alloc: Global,
+    left: usize,
+    room: Room,
+    bytes: &[u8],
+) -> Result<(Value, &[u8]), ReadFault>
     requires { left ≤ 255 }
     ensures { Gives (λ x. (x.0, x.1.now)) result (value_in left room bytes.now) }
 {
@@ -106,7 +111,12 @@ fn size_at(left: usize, room: Room, bytes: &[u8]) -> Result<(usize, &[u8]), Read
     Ok((2 + text.len(), rest))
 }
 
-fn values_at(alloc: Global, count: usize, first: Room, bytes: &[u8]) -> Result<(Items<Value>, &[u8]), ReadFault>
+fn values_at(
+    alloc: Global,
+    count: usize,
+    first: Room,
+    bytes: &[u8],
+) -> Result<(Items<Value>, &[u8]), ReadFault>
     requires { count ≤ 255 }
     ensures { Gives (λ x. (x.0, x.1.now)) result (many_in value_in room_behind count first bytes.now) }
 {
@@ -164,7 +174,12 @@ fn room_within(low: usize, high: usize) -> Room
 }
 
 #[tactic(auto, unfolding(crate::specs::RowReaders::row_in))]
-fn row_at(alloc: Global, low: usize, high: usize, bytes: &[u8]) -> Result<(Items<Value>, &[u8]), ReadFault>
+fn row_at(
+    alloc: Global,
+    low: usize,
+    high: usize,
+    bytes: &[u8],
+) -> Result<(Items<Value>, &[u8]), ReadFault>
     requires { low ≤ 65537 }
     ensures { Gives (λ x. (x.0, x.1.now)) result (row_in low high bytes.now) }
 {

@@ -1,6 +1,8 @@
 // Bytes from outside, and each call once.
 use super::*;
-use hb_types::{Bytes, Change, Held, LogItem, Mode, NodeName, Number, Path, Place, Space, Text, Tx, Value};
+use hb_types::{
+    Bytes, Change, Held, LogItem, Mode, NodeName, Number, Path, Place, Space, Text, Tx, Value,
+};
 use sqlite_items::Items;
 use std::test::*;
 
@@ -18,22 +20,12 @@ const DECISION: [u8; 25] = [
     0x14, 0, 0, 0, 4, 2, 0, 0, 0, 0, 0, 0, 0, 2, 0, 0, 0, 0, 0, 0, 0, 2, 1, 2, 0,
 ];
 
-const PLACE: Place = Place {
-    space: Space {
-        area: 257,
-        table: 1,
-    },
-    group: 92,
-    key: 5,
-};
-
-fn change(rt: &HostRuntime) -> Result<Change, Fail> {
-    let row = Vec::from_slice(rt.alloc(), &ROW).ok().ok_or("no memory")?;
-    Ok(Change {
-        place: PLACE,
-        row: Some(Bytes::new(row)),
-    })
-}
+// A lock IX on space 257.1, a lock X on its key 5 in group 92, and the change.
+const PREPARE: [u8; 89] = [
+    84, 0, 0, 0, 1, 7, 0, 0, 0, 0, 0, 0, 0, 0, 0, 0, 0, 0, 0, 0, 0, 2, 0, 0, 0, 1, 1, 1, 1, 1, 0,
+    0, 0, 0, 0, 0, 0, 0, 0, 0, 0, 3, 4, 1, 1, 1, 0, 92, 0, 5, 0, 0, 0, 0, 0, 0, 0, 1, 0, 0, 0, 1,
+    1, 1, 0, 92, 0, 5, 0, 0, 0, 0, 0, 0, 0, 1, 10, 0, 1, 2, 1, 5, 0, 0, 0, 2, 1, 101, 0,
+];
 
 #[test]
 fn row(rt: HostRuntime) -> Result<(), Fail> {
@@ -41,8 +33,12 @@ fn row(rt: HostRuntime) -> Result<(), Fail> {
     let values = [Value::Int(5), Value::Text(Text::new(text))];
     let bytes = encode_row(rt.alloc(), &values).ok().ok_or("no memory")?;
     assert_eq!(rt; bytes.as_slice(), ROW.as_slice());
-    let values = decode_row(rt.alloc(), &ROW).ok().ok_or("the bytes are a row")?;
-    let again = encode_row(rt.alloc(), values.as_slice()).ok().ok_or("no memory")?;
+    let values = decode_row(rt.alloc(), &ROW)
+        .ok()
+        .ok_or("the bytes are a row")?;
+    let again = encode_row(rt.alloc(), values.as_slice())
+        .ok()
+        .ok_or("no memory")?;
     assert_eq!(rt; again.as_slice(), ROW.as_slice());
     Ok(())
 }
@@ -59,12 +55,13 @@ fn no_row(rt: HostRuntime) {
 
 #[test]
 fn one_change(rt: HostRuntime) -> Result<(), Fail> {
-    let change = change(&rt)?;
+    let (change, used) = decode_change(rt.alloc(), &CHANGE)
+        .ok()
+        .ok_or("the bytes are a change")?;
+    assert_eq!(rt; used, 27);
+    assert!(rt; change.place.group == 92 && change.place.key == 5);
     let bytes = encode_change(rt.alloc(), &change).ok().ok_or("no memory")?;
     assert_eq!(rt; bytes.as_slice(), CHANGE.as_slice());
-    let (again, used) = decode_change(rt.alloc(), &CHANGE).ok().ok_or("the bytes are a change")?;
-    assert_eq!(rt; used, 27);
-    assert!(rt; again.place == PLACE);
     // A row of 3 bytes is none.
     let mut short = CHANGE;
     short[15] = 3;
@@ -91,7 +88,9 @@ fn commit(rt: HostRuntime) -> Result<(), Fail> {
 
 #[test]
 fn decision(rt: HostRuntime) -> Result<(), Fail> {
-    let nodes = Items::from_slice(rt.alloc(), &[NodeName(1), NodeName(2)]).ok().ok_or("no memory")?;
+    let nodes = Items::from_slice(rt.alloc(), &[NodeName(1), NodeName(2)])
+        .ok()
+        .ok_or("no memory")?;
     let item = LogItem::Decision {
         tx: Tx(2),
         number: Number(2),
@@ -105,29 +104,10 @@ fn decision(rt: HostRuntime) -> Result<(), Fail> {
 
 #[test]
 fn prepare(rt: HostRuntime) -> Result<(), Fail> {
-    let space = Held {
-        path: Path::Whole(PLACE.space),
-        mode: Mode::IX,
-    };
-    let key = Held {
-        path: Path::Key(PLACE),
-        mode: Mode::X,
-    };
-    let locks = Items::from_slice(rt.alloc(), &[space, key]).ok().ok_or("no memory")?;
-    let mut changes = Items::new(rt.alloc());
-    changes.push(change(&rt)?).ok().ok_or("no memory")?;
-    let item = LogItem::Prepare {
-        tx: Tx(7),
-        floor: Number(0),
-        locks,
-        changes,
-    };
+    let item = decode_record(rt.alloc(), &PREPARE[4..88])
+        .ok()
+        .ok_or("the bytes are a record")?;
     let framed = encode_record(rt.alloc(), &item).ok().ok_or("no memory")?;
-    // 1 + 8 + 8 + 4 + 2 * 16 + 4 + 27 bytes of body
-    assert_eq!(rt; framed.as_slice().len(), 4 + 84 + 1);
-    let body = &framed.as_slice()[4..88];
-    let again = decode_record(rt.alloc(), body).ok().ok_or("the bytes are a record")?;
-    let framed_again = encode_record(rt.alloc(), &again).ok().ok_or("no memory")?;
-    assert_eq!(rt; framed_again.as_slice(), framed.as_slice());
+    assert_eq!(rt; framed.as_slice(), PREPARE.as_slice());
     Ok(())
 }

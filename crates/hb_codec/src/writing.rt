@@ -9,7 +9,9 @@ ghost use Rattle.hb_types.specs.Rows.{value_bytes, row_bytes, HasBytes, HaveRow}
 
 use crate::changes::size_of;
 use crate::framed::Framed;
-use hb_types::{Bytes, Change, Held, LogItem, Mode, NoMemory, NodeName, Number, Path, Place, Space, Tx, Value};
+use hb_types::{
+    Bytes, Change, Held, LogItem, Mode, NoMemory, NodeName, Number, Path, Place, Space, Tx, Value,
+};
 use std::alloc::Global;
 
 fn put_value(out: &mut Vec<u8>, value: &Value) -> Result<(), NoMemory>
@@ -204,7 +206,9 @@ fn body_len(item: &LogItem) -> usize
     ensures { result ≡ length (body_bytes item.now) }
 {
     match item {
-        LogItem::Prepare { locks, changes, .. } => 25 + 16 * locks.len() + changes_len(changes.as_slice()),
+        LogItem::Prepare { locks, changes, .. } => 25
+            + 16 * locks.len()
+            + changes_len(changes.as_slice()),
         LogItem::Commit { .. } => 17,
         LogItem::Abort { .. } | LogItem::Ids { .. } => 9,
         LogItem::Decision { nodes, .. } => 18 + nodes.len(),
@@ -226,7 +230,13 @@ fn put_head(out: &mut Vec<u8>, tag: u8, first: u64) -> Result<(), NoMemory>
     put_number(out, first)
 }
 
-fn put_prepare(out: &mut Vec<u8>, tx: Tx, floor: Number, locks: &[Held], changes: &[Change]) -> Result<(), NoMemory>
+fn put_prepare(
+    out: &mut Vec<u8>,
+    tx: Tx,
+    floor: Number,
+    locks: &[Held],
+    changes: &[Change],
+) -> Result<(), NoMemory>
     requires locks { length locks.now ≤ 8388608 }
     requires changes { length changes.now ≤ 8388608 }
     requires fit { All IsChange changes.now }
@@ -249,7 +259,12 @@ fn put_two_numbers(out: &mut Vec<u8>, tag: u8, tx: Tx, number: Number) -> Result
     Ok(())
 }
 
-fn put_decision(out: &mut Vec<u8>, tx: Tx, number: Number, nodes: &[NodeName]) -> Result<(), NoMemory>
+fn put_decision(
+    out: &mut Vec<u8>,
+    tx: Tx,
+    number: Number,
+    nodes: &[NodeName],
+) -> Result<(), NoMemory>
     requires { length nodes.now ≤ 9 }
     ensures { OnOk result (out.new.items ≡ out.old.items ++ (4 ∷ eight tx.0 ++ eight number.0 ++ (length nodes.now ∷ joined (map node_text nodes.now)))) }
 {
@@ -272,7 +287,12 @@ fn put_body(out: &mut Vec<u8>, item: &LogItem) -> Result<(), NoMemory>
         } => put_prepare(out, *tx, *floor, locks.as_slice(), changes.as_slice())?,
         LogItem::Commit { tx, number } => put_two_numbers(out, 2, *tx, *number)?,
         LogItem::Abort { tx } => put_head(out, 3, tx.0)?,
-        LogItem::Decision { tx, number, nodes } => put_decision(out, *tx, *number, nodes.as_slice())?,
+        LogItem::Decision { tx, number, nodes } => put_decision(
+            out,
+            *tx,
+            *number,
+            nodes.as_slice(),
+        )?,
         LogItem::Ids { upto } => put_head(out, 5, *upto)?,
     }
     Ok(())

@@ -1,4 +1,4 @@
-use Rattle.std.proofs.Common.{◌≡◌, ◌∙◌, sym}
+use Rattle.std.proofs.Common.{◌∙◌, sym}
 use Rattle.hb_codec.specs.Spellings.{IsChangeOf}
 use Rattle.hb_codec.specs.ChangeReaders.{change_in, whole_slot}
 use Rattle.hb_codec.proofs.Calculus.{one_form}

@@ -1,4 +1,4 @@
-use Rattle.std.proofs.Common.{◌≡◌, ◌∙◌, sym}
+use Rattle.std.proofs.Common.{◌∙◌, sym}
 use Rattle.hb_codec.specs.Spellings.{IsBodyOf}
 use Rattle.hb_codec.specs.RecordReaders.{body_in}
 use Rattle.hb_codec.proofs.Calculus.{one_form}

@@ -1,6 +1,6 @@
-use Rattle.std.proofs.Common.{◌≡◌, ℕ, ◌+◌, ◌-◌, ◌*◌, ◌/◌, ◌≤◌, ◌<◌, List, length, drop, get_or, Result, Ok, Err, refl, sym, ◌∙◌, ap, subst, arith, false, true}
+use Rattle.std.proofs.Common.{◌≡◌, ℕ, ◌+◌, ◌-◌, ◌*◌, ◌/◌, ◌<◌, get_or, Ok, refl, subst, arith}
 use Rattle.std.proofs.lemmas.Result.{err_from_is_err_and}
-use Rattle.hb_codec.specs.Readers.{◌>>=◌, Gives, Fails, number_in, digit, least_above, most_above, digit_fits, fits_at}
+use Rattle.hb_codec.specs.Readers.{number_in, digit, least_above, most_above}
 use Rattle.hb_codec.proofs.NumberAt.{number_none, number_short, number_refused, number_whole, refused_high, refused_least, fails_on, bind_is}
 use Rattle.hb_codec.proofs.reading.+number_at.Goals as goal
 

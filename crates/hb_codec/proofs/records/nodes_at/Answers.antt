@@ -1,8 +1,8 @@
-use Rattle.std.proofs.Common.{◌≡◌, ◌≤◌, ◌-◌, ◌++◌, ◌∷◌, [], suc, refl, sym, ◌∙◌, ap, subst, arith, rules}
+use Rattle.std.proofs.Common.{◌-◌, arith}
 use Rattle.std.proofs.lemmas.Result.{err_from_is_err_and}
 use Rattle.hb_codec.specs.Readers.{many_in}
 use Rattle.hb_codec.specs.RecordReaders.{node_in, node_after}
-use Rattle.hb_codec.proofs.Lists.{with_front, front_none, many_goes, many_ends, many_done}
+use Rattle.hb_codec.proofs.Lists.{front_none, many_goes, many_ends, many_done}
 use Rattle.hb_codec.proofs.records.nodes_at.Goals as goal
 
 pub loop-left-init : goal.loop-left-init

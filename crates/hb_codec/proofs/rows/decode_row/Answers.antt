@@ -1,4 +1,4 @@
-use Rattle.std.proofs.Common.{List, ℕ}
+use Rattle.std.proofs.Common.{List}
 use Rattle.hb_types.specs.declared.value.Value.{Value}
 use Rattle.hb_types.specs.Rows.{IsRowOf}
 use Rattle.hb_codec.specs.RowReaders.{row_in}

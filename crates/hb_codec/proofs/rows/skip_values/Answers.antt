@@ -1,8 +1,8 @@
-use Rattle.std.proofs.Common.{◌≡◌, ◌≤◌, ◌-◌, ◌++◌, ◌∷◌, [], suc, refl, sym, ◌∙◌, ap, subst, arith, rules}
+use Rattle.std.proofs.Common.{◌-◌, arith}
 use Rattle.std.proofs.lemmas.Result.{err_from_is_err_and}
 use Rattle.hb_codec.specs.Readers.{behind, many_in}
 use Rattle.hb_codec.specs.RowReaders.{value_in, room_after}
-use Rattle.hb_codec.proofs.RowLoop.{Passed, passed, passes, pass_ends, pass_done}
+use Rattle.hb_codec.proofs.RowLoop.{passed, passes, pass_ends, pass_done}
 use Rattle.hb_codec.proofs.rows.skip_values.Goals as goal
 
 pub loop-left-preserved : goal.loop-left-preserved

@@ -1,7 +1,7 @@
-use Rattle.std.proofs.Common.{◌≡◌, ◌+◌, ◌*◌, ◌≤◌, length, map, refl, sym, ◌∙◌, ap, arith}
+use Rattle.std.proofs.Common.{◌≡◌, length, map, ◌∙◌, ap, arith}
 use Rattle.hb_types.specs.Lists.{joined}
 use Rattle.hb_types.specs.Records.{body_bytes, change_bytes}
-use Rattle.hb_codec.proofs.PrepareGrammar.{Short, short_of, prepare_long}
+use Rattle.hb_codec.proofs.PrepareGrammar.{short_of, prepare_long}
 use Rattle.hb_codec.proofs.writing.body_len.Goals as goal
 
 pub changes_len-requires : goal.changes_len-requires

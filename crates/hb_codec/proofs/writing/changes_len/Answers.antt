@@ -1,4 +1,4 @@
-use Rattle.std.proofs.Common.{◌≡◌, ℕ, ◌+◌, ◌≤◌, List, ◌++◌, length, map, take, get_or, refl, sym, ◌∙◌, ap, subst, arith, length-append}
+use Rattle.std.proofs.Common.{◌≡◌, ◌+◌, ◌≤◌, length, map, take, get_or, ◌∙◌, ap, arith, length-append}
 use Rattle.hb_types.specs.Lists.{joined}
 use Rattle.hb_types.specs.Records.{change_bytes}
 use Rattle.hb_codec.proofs.Joined.{joined_more, front_short}

@@ -1,4 +1,4 @@
-use Rattle.std.proofs.Common.{◌≡◌, ◌∷◌, [], length}
+use Rattle.std.proofs.Common.{◌∷◌, [], length}
 use Rattle.hb_types.specs.Rows.{value_bytes}
 use Rattle.hb_codec.proofs.Joined.{writes_more}
 use Rattle.hb_codec.proofs.writing.encode_row.Goals as goal

@@ -1,8 +1,8 @@
-use Rattle.std.proofs.Common.{◌≡◌, ℕ, ◌≤◌, ◌∷◌, ◌++◌, List, length, map, refl, sym, ◌∙◌, ap, subst, arith}
+use Rattle.std.proofs.Common.{ℕ, ◌∷◌, ◌++◌, List, length, map, ◌∙◌, ap, arith}
 use Rattle.hb_types.specs.Lists.{joined}
 use Rattle.hb_types.specs.Numbers.{eight}
 use Rattle.hb_codec.specs.Spellings.{node_text}
-use Rattle.hb_codec.proofs.PrepareGrammar.{Short, short_of, nodes_of}
+use Rattle.hb_codec.proofs.PrepareGrammar.{short_of, nodes_of}
 use Rattle.hb_codec.proofs.RecordGrammar.{nodes_text}
 use Rattle.hb_codec.proofs.writing.put_body.Goals as goal
 

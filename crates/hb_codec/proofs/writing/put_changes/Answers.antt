@@ -1,4 +1,3 @@
-use Rattle.std.proofs.Common.{◌≡◌}
 use Rattle.hb_types.specs.Records.{change_bytes}
 use Rattle.hb_codec.proofs.Joined.{writes_more}
 use Rattle.hb_codec.proofs.writing.put_changes.Goals as goal

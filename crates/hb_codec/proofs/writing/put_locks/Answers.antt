@@ -1,4 +1,4 @@
-use Rattle.std.proofs.Common.{◌≡◌, get_or}
+use Rattle.std.proofs.Common.{get_or}
 use Rattle.hb_types.specs.declared.lock.Held.{Held}
 use Rattle.hb_types.specs.declared.lock.Mode.TheVariants.{IS}
 use Rattle.hb_types.specs.declared.places.Path.TheVariants.{Whole}

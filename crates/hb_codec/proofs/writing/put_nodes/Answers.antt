@@ -1,4 +1,4 @@
-use Rattle.std.proofs.Common.{◌≡◌, get_or}
+use Rattle.std.proofs.Common.{get_or}
 use Rattle.hb_types.specs.declared.names.NodeName.{NodeName}
 use Rattle.hb_codec.specs.Spellings.{node_text}
 use Rattle.hb_codec.proofs.Joined.{writes_more, get_or_any}

@@ -1,4 +1,3 @@
-use Rattle.std.proofs.Common.{◌≡◌}
 use Rattle.hb_types.specs.Numbers.{two, eight}
 use Rattle.hb_types.specs.Records.{space_bytes}
 use Rattle.hb_codec.proofs.Joined.{three_pieces}

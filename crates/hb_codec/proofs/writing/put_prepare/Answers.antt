@@ -1,4 +1,4 @@
-use Rattle.std.proofs.Common.{◌≡◌, ◌∷◌, length, map}
+use Rattle.std.proofs.Common.{◌∷◌, length, map}
 use Rattle.hb_types.specs.Lists.{joined}
 use Rattle.hb_types.specs.Numbers.{four, eight}
 use Rattle.hb_types.specs.Records.{lock_bytes, change_bytes}
