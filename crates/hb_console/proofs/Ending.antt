@@ -1,25 +1,29 @@
 -- How a run over one disk ends.
-use Rattle.std.proofs.Common.{◌≡◌, ◌≢◌, ◌⊎◌, inl, inr, ℕ, ◌≤◌, List, [], ◌++◌, take, refl, sym, ◌∙◌, ap, subst, arith}
-use Rattle.std.specs.Prelude.{Some, None, IfSome, Result, Ok, Err, OnOk, OnErr}
+use Rattle.std.proofs.Common.{◌≡◌, ◌≢◌, ◌⊎◌, inl, inr, ℕ, ◌≤◌, List, [], ◌++◌, length, refl, sym, ◌∙◌, ap, subst, arith}
+use Rattle.std.specs.Prelude.{Some, None, IfSome, IfOk, IfErr, Result, Ok, Err, is_some}
 use Rattle.std.specs.declared.option.Option.{Option}
+use Rattle.std.proofs.lemmas.List.{append-nil}
 use Rattle.hb_edge.specs.Causes.{Rose}
 use Rattle.hb_edge.specs.Images.{Image}
-use Rattle.hb_edge.specs.Streams.{with_end, PutsPart}
+use Rattle.hb_edge.specs.Moments.{tick}
+use Rattle.hb_edge.specs.Streams.{with_end}
 use Rattle.hb_table.specs.declared.order.Order.{Order}
+use Rattle.hb_table.specs.Log.{Kept, IsTableLog}
 use Rattle.hb_table.specs.Table.{Entry}
-use Rattle.hb_table.specs.Entries.{IsTable}
-use Rattle.hb_table.specs.Run.{entries_after, replies, lines_text, IsFront}
-use Rattle.hb_table.proofs.EntryBytes.{one_list}
+use Rattle.hb_table.specs.Run.{entries_after, replies, run_text, IsFront, HasShown}
 use Rattle.hb_console.specs.declared.stop.Stop.{Stop}
 use Rattle.hb_console.specs.declared.stop.Stop.TheVariants.{Usage, Source, Sink, Disk, Damaged, Memory}
 use Rattle.hb_console.specs.declared.table.Table.{Table}
-use Rattle.hb_console.specs.Outside.{Outside, GoesOn, MayStop}
-use Rattle.hb_console.specs.Stops.{code_of, status_of, StopsBy}
-use Rattle.hb_console.specs.Tables.{Keeps, Stores, IsKept, IsNoTable, Opens, MayNotOpen}
-use Rattle.hb_console.specs.Runs.{ForOrders, Answers, StopsAt, Runs}
-use Rattle.hb_console.specs.Ends.{Ends, Finishes, Stands, ForRun}
-use Rattle.hb_console.proofs.Replying.{with_end_twice, with_end_nothing, front_part, has_shown-all}
-use Rattle.hb_console.proofs.Running.{for_asked, asked_start, stops_at, rose_since, by_device, goes_twice}
+use Rattle.hb_console.specs.Ends.{Ends, ForRun, IsRefused, IsUntouched, Stands}
+use Rattle.hb_console.specs.Openings.{Fails, IsOneCall, Opens, MayNotOpen, Stays}
+use Rattle.hb_console.specs.Outside.{Outside, Faults, GoesOn, IsInTime, MayStop}
+use Rattle.hb_console.specs.Runs.{ForOrders, Finishes, StopsAt, Survives, SurviveSince, IsBehind, Reached, Runs}
+use Rattle.hb_console.specs.Stops.{code_of, status_of}
+use Rattle.hb_console.specs.Tables.{HasEntries, IsNoTable, Stores}
+use Rattle.hb_console.proofs.Replying.{with_end_nothing, has_shown}
+use Rattle.hb_console.proofs.Running.{for_asked, asked_start, rose_since}
+use Rattle.hb_console.proofs.Settled.{one_kept}
+use Rattle.hb_console.proofs.Starting.{told_all}
 
 all_some : {X : Type 0} (o : Option X) (P : X → Type 0) → ((x : X) → P x) → IfSome o P
 all_some None P f = tt
@@ -29,9 +33,12 @@ from_some : {X : Type 0} (o : Option X) (P Q : X → Type 0) → ((x : X) → P 
 from_some None P Q f h = tt
 from_some (Some x) P Q f h = f x h
 
--- where the disk was some list of entries
+at_some : {X : Type 0} (o : Option X) (P : X → Type 0) (x : X) → o ≡ Some x → IfSome o P → P x
+at_some {X = X} o P x is h = subst (λ (p : Option X). IfSome p P) is h
+
+-- where the disk was some log of the table
 abbrev HasTable : Option Image → Type 0
-HasTable content = IfSome content (λ image. (start : List Entry) × IsTable image start)
+HasTable content = IfSome content (λ image. (kept : Kept) × IsTableLog image kept)
 
 -- why a command stopped
 abbrev pub Why : Outside → Outside → Stop → Type 0
@@ -39,10 +46,10 @@ Why before after Usage = ⊥
 Why before after Source = Rose before.faults.source after.faults.source × HasTable before.content
 Why before after Sink = Rose before.faults.sink after.faults.sink × HasTable before.content
 Why before after Disk = Rose before.faults.disk after.faults.disk
-Why before after Damaged = IfSome before.content IsNoTable × (after.output ≡ before.output) × (after.content ≡ before.content) × (after.input ≡ before.input)
+Why before after Damaged = IsRefused before after
 Why before after Memory = Unit {0}
 
-stands_of : (before after : Outside) (stop : Stop) (start : List Entry) (orders : List Order) → StopsAt start before after stop orders → Stands (code_of stop) before after start orders
+stands_of : (before after : Outside) (stop : Stop) (start : List Entry) (orders : List Order) → StopsAt before after start stop orders → Stands (code_of stop) before after start orders
 stands_of before after stop start orders at = record { shown = at.shown; text = at.text; front = at.front; stores = λ other. at.stores (λ is. other (ap code_of is)) }
 
 for_orders_map : (input : Option (List ℕ)) (P Q : List Order → Type 0) → ((orders : List Order) → P orders → Q orders) → ForOrders input P → ForOrders input Q
@@ -50,7 +57,7 @@ for_orders_map None P Q f h = tt
 for_orders_map (Some bytes) P Q f h = λ orders asks. f orders (h orders asks)
 
 for_run_map : (before : Outside) (P Q : List Entry → List Order → Type 0) → ((start : List Entry) (orders : List Order) → P start orders → Q start orders) → ForRun before P → ForRun before Q
-for_run_map before P Q f h = from_some before.content _ _ (λ image each start table. for_orders_map before.input (P start) (Q start) (f start) (each start table)) h
+for_run_map before P Q f h = λ in_time. from_some before.content _ _ (λ image each kept log. for_orders_map before.input (P kept.entries) (Q kept.entries) (f kept.entries) (each kept log)) (h in_time)
 
 -- each stop has one status
 not_done : (stop : Stop) → code_of stop ≢ 0
@@ -94,7 +101,7 @@ module _ (before after : Outside) where
   disk_rose Damaged why is = absurd (omega arith)
   disk_rose Memory why is = absurd (omega arith)
 
-  is_damaged : (stop : Stop) → Why before after stop → code_of stop ≡ 6 → Why before after Damaged
+  is_damaged : (stop : Stop) → Why before after stop → code_of stop ≡ 6 → IsRefused before after
   is_damaged Usage why is = absurd why
   is_damaged Source why is = absurd (omega arith)
   is_damaged Sink why is = absurd (omega arith)
@@ -110,131 +117,168 @@ module _ (before after : Outside) where
   refuses Damaged why = all_some before.content _ (λ image no. inr (inl refl))
   refuses Memory why = all_some before.content _ (λ image no. inr (inr refl))
 
-  is_quiet : (stop : Stop) → Why before after stop → (Rose before.faults.source after.faults.source → ⊥) → (Rose before.faults.sink after.faults.sink → ⊥) → (Rose before.faults.disk after.faults.disk → ⊥) → IfSome before.content (λ image. (start : List Entry) → IsTable image start → (code_of stop ≡ 0) ⊎ (code_of stop ≡ 7))
+  is_quiet : (stop : Stop) → Why before after stop → (Rose before.faults.source after.faults.source → ⊥) → (Rose before.faults.sink after.faults.sink → ⊥) → (Rose before.faults.disk after.faults.disk → ⊥) → IfSome before.content (λ image. (kept : Kept) → IsTableLog image kept → (code_of stop ≡ 0) ⊎ (code_of stop ≡ 7))
   is_quiet Usage why source sink disk = absurd why
   is_quiet Source why source sink disk = absurd (source why.0)
   is_quiet Sink why source sink disk = absurd (sink why.0)
   is_quiet Disk why source sink disk = absurd (disk why)
-  is_quiet Damaged why source sink disk = from_some before.content _ _ (λ image no start table. absurd (no start table)) why.0
-  is_quiet Memory why source sink disk = all_some before.content _ (λ image start table. inr refl)
+  is_quiet Damaged why source sink disk = from_some before.content _ _ (λ image no kept log. absurd (no kept log)) why.no_table
+  is_quiet Memory why source sink disk = all_some before.content _ (λ image kept log. inr refl)
 
-  ends_stopped : (stop : Stop) → GoesOn before after → Why before after stop → ForRun before (λ start orders. StopsAt start before after stop orders) → (e : Stop) → e ≡ stop → (result : Result (Unit {0}) Stop) → result ≡ Err e → Ends (status_of result) before after
-  ends_stopped stop goes_on why stands e same result is = subst (λ (r : Result (Unit {0}) Stop). Ends (status_of r) before after) (sym (is ∙ ap (λ (s : Stop). Err s) same)) (record {
+  ends_stopped : (stop : Stop) → GoesOn before after → Why before after stop → ForRun before (λ start orders. StopsAt before after start stop orders) → ForRun before (λ start orders. IsUntouched (code_of stop) before after ⊎ SurviveSince (tick before.moment) before after start orders) → Ends (code_of stop) before after
+  ends_stopped stop goes_on why stands survives = record {
     not_usage = not_usage stop why;
-    named = λ _. (stop, refl);
+    named = λ other. (stop, refl);
     goes_on = goes_on;
     finished = λ zero. absurd (not_done stop zero);
-    stopped = λ _. for_run_map before _ _ (λ start orders at. stands_of before after stop start orders at) stands;
+    stopped = λ other. for_run_map before _ _ (λ start orders at. stands_of before after stop start orders at) stands;
+    survives = survives;
     source_failed = source_rose stop why;
     sink_failed = sink_rose stop why;
     disk_failed = disk_rose stop why;
     damaged = is_damaged stop why;
     refused = refuses stop why;
     quiet = is_quiet stop why;
-  })
+  }
 
-  ends_done : GoesOn before after → HasTable before.content → ForRun before (Finishes before after) → Ends 0 before after
-  ends_done goes_on has finishes = record {
+  ends_done : GoesOn before after → HasTable before.content → ForRun before (Finishes before after) → ForRun before (SurviveSince (tick before.moment) before after) → Ends 0 before after
+  ends_done goes_on has finishes survives = record {
     not_usage = λ e. absurd (omega arith);
     named = λ other. absurd (other refl);
     goes_on = goes_on;
     finished = λ _. finishes;
     stopped = λ other. absurd (other refl);
+    survives = for_run_map before _ _ (λ start orders s. inr s) survives;
     source_failed = λ e. absurd (omega arith);
     sink_failed = λ e. absurd (omega arith);
     disk_failed = λ e. absurd (omega arith);
     damaged = λ e. absurd (omega arith);
     refused = from_some before.content _ _ (λ image h no. absurd (no h.0 h.1)) has;
-    quiet = λ source sink disk. all_some before.content _ (λ image start table. inl refl);
+    quiet = λ source sink disk. all_some before.content _ (λ image kept log. inl refl);
   }
 
--- for each list of entries that a content is
-for_tables : (content : Option Image) (P : List Entry → Type 0) → ((image : Image) → content ≡ Some image → (start : List Entry) → IsTable image start → P start) → IfSome content (λ image. (start : List Entry) → IsTable image start → P start)
-for_tables None P f = tt
-for_tables (Some image) P f = f image refl
+-- nothing is shown, and the entries are those at the start
+nothing_shown : (start : List Entry) (later : List Order) → HasShown start later [] start
+nothing_shown start later = has_shown start [] later [] ([], refl)
 
-stores_kept : (content : Option Image) (left : ℕ → Image → Type 0) (last : ℕ) (image : Image) (start : List Entry) → content ≡ Some image → IsTable image start → IsKept content left last → Stores start content left last
-stores_kept None left last image start is table kept = tt
-stores_kept (Some other) left last image start is table kept = let same : other ≡ image = cc in (same ∙ table.spelling, kept)
+module _ {D : Type 0} (content : D → Option Image) (left : D → ℕ → Image → Type 0) (last faults : D → ℕ) (input output : Option (List ℕ)) (shown : ℕ → Option (List ℕ)) (put_at source_faults sink_faults : ℕ) (old : D) (was : ℕ)
+    (sink_stands : (m : ℕ) → put_at ≤ m → shown m ≡ output) where
+  abbrev with_disk : D → ℕ → Outside
+  with_disk disk moment = record {
+    input = input;
+    output = output;
+    shown = shown;
+    put_at = put_at;
+    content = content disk;
+    left = left disk;
+    last = last disk;
+    moment = moment;
+    faults = record { source = source_faults; sink = sink_faults; disk = faults disk };
+  }
 
-why_not_open : (before after : Outside) (stop : Stop) → MayNotOpen before.content before.faults.disk after.faults.disk stop → after.output ≡ before.output → after.content ≡ before.content → after.input ≡ before.input → Why before after stop
-why_not_open before after Usage may output content input = may
-why_not_open before after Source may output content input = absurd may
-why_not_open before after Sink may output content input = absurd may
-why_not_open before after Disk may output content input = may
-why_not_open before after Damaged may output content input = (may, output, content, input)
-why_not_open before after Memory may output content input = tt
+  nothing_gained : put_at ≤ was → (m : ℕ) → tick was ≤ m → shown m ≡ with_end [] output
+  nothing_gained in_time m le = sink_stands m (omega (arith, in_time, le)) ∙ with_end_nothing output
 
--- a stop in the opening
-pub opening_ends : (before after : Outside) (stop : Stop) → GoesOn before after → MayNotOpen before.content before.faults.disk after.faults.disk stop → after.output ≡ before.output → after.content ≡ before.content → after.input ≡ before.input
-    → (stop ≢ Disk → IsKept after.content after.left after.last) → (e : Stop) → e ≡ stop → (result : Result (Unit {0}) Stop) → result ≡ Err e → Ends (status_of result) before after
-opening_ends before after stop goes_on may output content input kept =
-    ends_stopped before after stop goes_on (why_not_open before after stop may output content input)
-    (for_tables before.content _ (λ image is start table. for_asked before.input before.input [] (StopsAt start before after stop) refl (asked_start before.input)
-    (λ later. stops_at start before after stop [] later [] ([], refl) (output ∙ with_end_nothing before.output)
-    (λ other. stores_kept after.content after.left after.last image start (content ∙ is) table (kept other)))))
+  -- a stop in the opening
+  module _ (new : D) (now : ℕ) (stop : Stop) (clock : was ≤ now) (fails : Fails content left last faults old new was now stop) where
+    why_not : (s : Stop) → stop ≡ s → MayNotOpen (content old) (faults old) (faults new) s → Why (with_disk old was) (with_disk new now) s
+    why_not Usage is why = why
+    why_not Source is why = absurd why
+    why_not Sink is why = absurd why
+    why_not Disk is why = why
+    why_not Damaged is why = record { no_table = why; output = refl; content = fails.same is; input = refl; left = λ in_time. fails.only is in_time.disk }
+    why_not Memory is why = tt
 
-module _ (table : Table) (before mid : Outside) (opens : Opens before.content table) (content : mid.content ≡ before.content) (kept : IsKept mid.content mid.left mid.last) where
-  has_table : HasTable before.content
-  has_table = from_some before.content _ _ (λ image t. (opens.0, t)) opens.2
+    stored : (s : Stop) → stop ≡ s → MayNotOpen (content old) (faults old) (faults new) s → last old ≤ was → (read : Image) → content old ≡ Some read → (kept : Kept) → IsTableLog read kept → s ≢ Disk → Stores kept.entries (content new) (left new) (last new)
+    stored Usage is why in_time read told kept log other = absurd why
+    stored Source is why in_time read told kept log other = absurd why
+    stored Sink is why in_time read told kept log other = absurd why
+    stored Disk is why in_time read told kept log other = absurd (other refl)
+    stored Damaged is why in_time read told kept log other = absurd (at_some (content old) IsNoTable read told why kept log)
+    stored Memory is why in_time read told kept log other = at_some (content old) _ read told (fails.stores is in_time) kept log
 
-  -- what holds from the entries of the table holds from any that the disk was
-  from_opened : (P : List Entry → List Order → Type 0) → ((start : List Entry) → Keeps start table → Stores start mid.content mid.left mid.last → ForOrders before.input (P start)) → ForRun before P
-  from_opened P each = for_tables before.content _ (λ image is start t.
-      let one : opens.0 ≡ start = one_list image opens.0 start (subst (λ (c : Option Image). IfSome c (λ i. IsTable i opens.0)) is opens.2) t in
-      each start (subst (λ (es : List Entry). Keeps es table) one opens.1) (stores_kept mid.content mid.left mid.last image start (content ∙ is) t kept))
+    stops : ForRun (with_disk old was) (λ start orders. StopsAt (with_disk old was) (with_disk new now) start stop orders)
+    stops = λ in_time. told_all (content old) _ (λ read told kept log. for_asked input input [] _ refl (asked_start input) (λ later. record {
+      shown = [];
+      text = with_end_nothing output;
+      front = (run_text kept.entries later, refl);
+      stores = λ other. (kept.entries, stored stop refl fails.why in_time.disk read told kept log other, nothing_shown kept.entries later);
+    }))
 
-  why_stopped : (after : Outside) (stop : Stop) → MayStop mid.faults after.faults stop → before.faults.source ≤ mid.faults.source → before.faults.sink ≤ mid.faults.sink → before.faults.disk ≤ mid.faults.disk → Why before after stop
-  why_stopped after Usage may source sink disk = may
-  why_stopped after Source may source sink disk = (rose_since _ _ _ source may, has_table)
-  why_stopped after Sink may source sink disk = (rose_since _ _ _ sink may, has_table)
-  why_stopped after Disk may source sink disk = rose_since _ _ _ disk may
-  why_stopped after Damaged may source sink disk = absurd may
-  why_stopped after Memory may source sink disk = tt
+    leaves_none : IsInTime (with_disk old was) → (read : Image) → content old ≡ Some read → (kept : Kept) → IsTableLog read kept → (later : List Order) → (((stop ≡ Disk) × IsOneCall content left last old new was now) ⊎ Stays content left old new was)
+        → IsUntouched (code_of stop) (with_disk old was) (with_disk new now) ⊎ SurviveSince (tick was) (with_disk old was) (with_disk new now) kept.entries later
+    leaves_none in_time read told kept log later (inl one) = inl (record { failed = ap code_of one.0; one_call = one.1.moment; output = refl; content = one.1.same; left = one.1.left_before })
+    leaves_none in_time read told kept log later (inr stays) = inr (λ m image le now_left. record {
+      entries = kept.entries;
+      has = at_some (content old) _ read told stays kept log m image le now_left;
+      shown = [];
+      gained = nothing_gained in_time.sink m le;
+      has_shown = nothing_shown kept.entries later;
+    })
 
-  module _ (input : mid.input ≡ before.input) (output : mid.output ≡ before.output) (begins : GoesOn before mid) where
-    stopped_since : (after : Outside) (stop : Stop) (start : List Entry) (orders : List Order) → StopsAt start mid after stop orders → StopsAt start before after stop orders
-    stopped_since after stop start orders at = record { shown = at.shown; text = at.text ∙ ap (with_end at.shown) output; front = at.front; stores = at.stores }
+    survives : ForRun (with_disk old was) (λ start orders. IsUntouched (code_of stop) (with_disk old was) (with_disk new now) ⊎ SurviveSince (tick was) (with_disk old was) (with_disk new now) start orders)
+    survives = λ in_time. told_all (content old) _ (λ read told kept log. for_asked input input [] _ refl (asked_start input) (λ later. leaves_none in_time read told kept log later (fails.stays in_time.disk)))
 
-    -- a stop among the orders
-    pub run_ends : (after : Outside) (stop : Stop) → Runs table mid after (Err stop) → (e : Stop) → e ≡ stop → (result : Result (Unit {0}) Stop) → result ≡ Err e → Ends (status_of result) before after
-    run_ends after stop runs = ends_stopped before after stop (goes_twice before mid after begins runs.goes_on) (why_stopped after stop runs.cause begins.source begins.sink begins.disk)
-        (from_opened _ (λ start keeps stores. subst (λ (i : Option (List ℕ)). ForOrders i (StopsAt start before after stop)) input (for_orders_map mid.input _ _ (stopped_since after stop start) (runs.stopped start keeps stores))))
+    pub opening_ends : Ends (code_of stop) (with_disk old was) (with_disk new now)
+    opening_ends = ends_stopped (with_disk old was) (with_disk new now) stop
+        (record { source = omega arith; sink = omega arith; disk = fails.count; moment = clock; output = refl; content = fails.told }) (why_not stop refl fails.why) stops survives
 
-    module _ (run after : Outside) (n : ℕ) (runs : Runs table mid run (Ok n)) (stays : (entries : List Entry) → Stores entries run.content run.left run.last → Stores entries after.content after.left after.last) where
-      answered : (start : List Entry) → Keeps start table → Stores start mid.content mid.left mid.last → (P : List Order → Type 0) → ((orders : List Order) → Answers start mid run n orders → P orders) → ForOrders before.input P
-      answered start keeps stores P each = subst (λ (i : Option (List ℕ)). ForOrders i P) input (for_orders_map mid.input _ _ each (runs.done start keeps stores))
+  -- a run over an opened table
+  module _ (table : Table D) (now : ℕ) (opens : IfSome (content old) (Opens content left last (last old) was table now)) (told : is_some (content table.log.disk) ≡ is_some (content old)) (count : faults old ≤ faults table.log.disk) (clock : was ≤ now)
+      (after : Outside) (result : Result (Unit {0}) Stop) (runs : Runs content left last table (with_disk table.log.disk now) after result) where
+    has_table : HasTable (content old)
+    has_table = from_some (content old) _ _ (λ read o. (o.kept, o.is_log)) opens
 
-      -- all replies are out, and a part of the last text
-      stops_last : (stop : Stop) (part : ℕ) → after.output ≡ with_end (take part (lines_text n)) run.output → (start : List Entry) (orders : List Order) → Answers start mid run n orders → StopsAt start before after stop orders
-      stops_last stop part out start orders answers = record {
-        shown = replies 1 start orders ++ take part (lines_text n);
-        text = out ∙ ap (with_end (take part (lines_text n))) (answers.text ∙ ap (with_end (replies 1 start orders)) output) ∙ with_end_twice before.output (replies 1 start orders) (take part (lines_text n));
-        front = subst (λ (k : ℕ). IsFront (replies 1 start orders ++ take part (lines_text n)) (replies 1 start orders ++ lines_text k)) answers.count (front_part part (replies 1 start orders) (lines_text n));
-        stores = λ other. (entries_after start orders, stays (entries_after start orders) answers.stores, has_shown-all start orders (replies 1 start orders ++ take part (lines_text n)));
-      }
+    goes_on : GoesOn (with_disk old was) after
+    goes_on = record {
+      source = runs.goes_on.source;
+      sink = runs.goes_on.sink;
+      disk = omega (arith, count, runs.goes_on.disk);
+      moment = omega (arith, clock, runs.goes_on.moment);
+      output = runs.goes_on.output;
+      content = runs.goes_on.content ∙ told;
+    }
 
-      goes_on_last : GoesOn run after → GoesOn before after
-      goes_on_last last = goes_twice before run after (goes_twice before mid run begins runs.goes_on) last
+    reached : IsInTime (with_disk old was) → (read : Image) → (o : Opens content left last (last old) was table now read) → Reached content left last (tick was) output o.kept.entries [] table output shown put_at now
+    reached in_time read o = record {
+      kept = o.kept;
+      ready = o.ready in_time.disk;
+      entries = refl;
+      text = with_end_nothing output;
+      in_time = omega (arith, in_time.sink, clock);
+      behind = λ m image le left_now. record { first = []; later = []; split = refl; has = o.stays in_time.disk m image le left_now; shown = []; gained = nothing_gained in_time.sink m le; front = ([], refl) };
+    }
 
-      pub last_stops : (stop : Stop) → GoesOn run after → MayStop mid.faults after.faults stop → PutsPart run.output after.output (lines_text n) → (e : Stop) → e ≡ stop → (result : Result (Unit {0}) Stop) → result ≡ Err e → Ends (status_of result) before after
-      last_stops stop ends may part = ends_stopped before after stop (goes_on_last ends) (why_stopped after stop may begins.source begins.sink begins.disk)
-          (from_opened _ (λ start keeps stores. answered start keeps stores _ (stops_last stop part.0 part.1 start)))
+    -- what holds from the entries of the table holds from those of any log that the disk was
+    from_opened : (P : List Entry → List Order → Type 0) → ((start : List Entry) → Reached content left last (tick was) output start [] table output shown put_at now → ForOrders input (P start)) → ForRun (with_disk old was) P
+    from_opened P each = λ in_time. told_all (content old) _ (λ read is kept log.
+        let o = at_some (content old) _ read is opens in
+        let one : o.kept ≡ kept = one_kept read o.kept kept o.is_log log in
+        subst (λ (k : Kept). ForOrders input (P k.entries)) one (each o.kept.entries (reached in_time read o)))
 
-      pub last_ends : GoesOn run after → after.input ≡ run.input → after.output ≡ with_end (lines_text n) run.output → Ends 0 before after
-      last_ends last input_is out = ends_done before after
-          (goes_on_last last)
-          has_table
-          (from_opened _ (λ start keeps stores. answered start keeps stores _ (λ orders answers. record {
-            text = out ∙ ap (with_end (lines_text n)) (answers.text ∙ ap (with_end (replies 1 start orders)) output) ∙ with_end_twice before.output (replies 1 start orders) (lines_text n) ∙ ap (λ (k : ℕ). with_end (replies 1 start orders ++ lines_text k) before.output) answers.count;
-            stores = stays (entries_after start orders) answers.stores;
-            ended = input_is ∙ answers.ended;
-          })))
+    why_stopped : (stop : Stop) → MayStop (record { source = source_faults; sink = sink_faults; disk = faults table.log.disk }) after.faults stop → Why (with_disk old was) after stop
+    why_stopped Usage may = may
+    why_stopped Source may = (may, has_table)
+    why_stopped Sink may = (may, has_table)
+    why_stopped Disk may = rose_since (faults old) (faults table.log.disk) after.faults.disk count may
+    why_stopped Damaged may = absurd may
+    why_stopped Memory may = tt
 
-      -- the last text is put, or a part of it
-      pub last_put : (text : List ℕ) → text ≡ lines_text n → (result : Result (Unit {0}) Stop) → GoesOn run after → after.input ≡ run.input → OnOk result (after.output ≡ with_end text run.output) → OnErr result (PutsPart run.output after.output text)
-          → StopsBy Sink run.faults.sink after.faults.sink result → Ends (status_of result) before after
-      last_put text is (Ok done) last input_is all part by = last_ends last input_is (all ∙ ap (λ (t : List ℕ). with_end t run.output) is)
-      last_put text is (Err stop) last input_is all part by = last_stops stop last
-          (by_device mid.faults after.faults Sink stop run.faults.sink after.faults.sink by.cause (λ rose. rose_since mid.faults.sink run.faults.sink after.faults.sink runs.goes_on.sink rose))
-          (subst (λ (t : List ℕ). PutsPart run.output after.output t) is part) stop refl (Err stop) refl
+    finishes_from : (start : List Entry) (orders : List Order) → Finishes (with_disk table.log.disk now) after start orders → Finishes (with_disk old was) after start orders
+    finishes_from start orders f = record { text = f.text; stores = f.stores; ended = f.ended }
+
+    stops_from : (start : List Entry) (stop : Stop) (orders : List Order) → StopsAt (with_disk table.log.disk now) after start stop orders → StopsAt (with_disk old was) after start stop orders
+    stops_from start stop orders at = record { shown = at.shown; text = at.text; front = at.front; stores = at.stores }
+
+    survives_run : ForRun (with_disk old was) (SurviveSince (tick was) (with_disk old was) after)
+    survives_run = from_opened (SurviveSince (tick was) (with_disk old was) after) (λ start r. runs.survives (tick was) start r)
+
+    ends_by : (r : Result (Unit {0}) Stop) → Runs content left last table (with_disk table.log.disk now) after r → Ends (status_of r) (with_disk old was) after
+    ends_by (Ok done) rs = ends_done (with_disk old was) after goes_on has_table
+        (from_opened (Finishes (with_disk old was) after) (λ start r. for_orders_map input (Finishes (with_disk table.log.disk now) after start) (Finishes (with_disk old was) after start) (finishes_from start) (rs.done (tick was) start r))) survives_run
+    ends_by (Err stop) rs = ends_stopped (with_disk old was) after stop goes_on (why_stopped stop rs.cause)
+        (from_opened (λ start orders. StopsAt (with_disk old was) after start stop orders) (λ start r. for_orders_map input (StopsAt (with_disk table.log.disk now) after start stop) (StopsAt (with_disk old was) after start stop) (stops_from start stop) (rs.stopped (tick was) start r)))
+        (for_run_map (with_disk old was) (SurviveSince (tick was) (with_disk old was) after) _ (λ start orders s. inr s) survives_run)
+
+    pub run_ends : Ends (status_of result) (with_disk old was) after
+    run_ends = ends_by result runs

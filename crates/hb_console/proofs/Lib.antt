@@ -1,9 +1,11 @@
-pub mod EntryBytes
 pub mod Rows
-pub mod MoreEntries
-pub mod Reading
+pub mod Settled
+pub mod VoteRows
+pub mod Inserting
+pub mod Replaying
 pub mod OrderReplies
 pub mod Replying
 pub mod Asking
 pub mod Running
+pub mod Starting
 pub mod Ending

@@ -1,197 +1,436 @@
--- A run on its way, its end, and where it stops.
-use Rattle.std.proofs.Common.{◌≡◌, ◌≢◌, ℕ, ◌+◌, ◌≤◌, List, [], ◌∷◌, ◌++◌, length, take, refl, sym, ◌∙◌, ap, subst, arith, length-append, true, false, ◌⊎◌, inl, inr}
-use Rattle.std.specs.Prelude.{Some, None, IfSome, is_some, Result, Ok, Err}
+-- A run on its way: what is left behind after each order and each put, where it stops, and its end.
+use Rattle.std.proofs.Common.{◌≡◌, ◌≢◌, ◌⊎◌, inl, inr, ⊎_elim, ℕ, ◌+◌, ◌<◌, ◌≤◌, List, [], ◌∷◌, ◌++◌, length, take, refl, sym, ◌∙◌, ap, subst, arith, append_assoc, length-append, true, false}
+use Rattle.std.specs.Prelude.{Some, None, IfSome, is_some, max, Result, Ok, Err, IfOk, IfErr, OnOk, OnErr}
 use Rattle.std.specs.declared.option.Option.{Option}
+use Rattle.std.proofs.lemmas.Bool.{cases_lt}
 use Rattle.std.proofs.lemmas.List.{append-nil, nil_from_length}
 use Rattle.hb_edge.specs.Causes.{Rose}
 use Rattle.hb_edge.specs.Images.{Image}
+use Rattle.hb_edge.specs.Moments.{tick}
+use Rattle.hb_edge.specs.Stops.{Leaves}
 use Rattle.hb_edge.specs.Streams.{with_end, with_front, PutsPart}
 use Rattle.hb_table.specs.declared.order.Order.{Order}
 use Rattle.hb_table.specs.Lines.{lines_of}
+use Rattle.hb_table.specs.Log.{Kept}
 use Rattle.hb_table.specs.Orders.{AskAll}
 use Rattle.hb_table.specs.Table.{Entry, entries_with, reply_to}
-use Rattle.hb_table.specs.Run.{entries_after, replies, run_text, IsFront}
-use Rattle.hb_script.specs.Scripts.{NextOrder}
+use Rattle.hb_table.specs.Run.{entries_after, replies, run_text, lines_text, IsFront, HasShown}
+use Rattle.hb_script.specs.Scripts.{NextOrder, FirstAsks}
 use Rattle.hb_console.specs.declared.stop.Stop.{Stop}
-use Rattle.hb_console.specs.declared.stop.Stop.TheVariants.{Disk, Memory}
+use Rattle.hb_console.specs.declared.stop.Stop.TheVariants.{Sink, Disk, Memory}
 use Rattle.hb_console.specs.declared.table.Table.{Table}
 use Rattle.hb_console.specs.declared.reply.Reply.{Reply}
 use Rattle.hb_console.specs.Outside.{Outside, Faults, GoesOn, MayStop}
 use Rattle.hb_console.specs.Replies.{bytes_of}
-use Rattle.hb_console.specs.Tables.{Keeps, Stores, Serves}
-use Rattle.hb_console.specs.Runs.{ForOrders, Answers, StopsAt, Runs}
-use Rattle.hb_console.proofs.Replying.{with_end_twice, with_end_nothing, entries_after-append, replies-push, replies_front, front_trans, front_part, has_shown}
+use Rattle.hb_console.specs.Stops.{StopsBy}
+use Rattle.hb_console.specs.Tables.{HasEntries, HasEither, IsReady, Answers, Stores}
+use Rattle.hb_console.specs.Runs.{ForOrders, Finishes, StopsAt, Survives, SurviveSince, IsBehind, BehindSince, Reached, Runs}
+use Rattle.hb_console.proofs.Replying.{with_end_twice, with_end_nothing, entries_after-append, replies-push, replies_front, front_trans, front_part, has_shown, has_shown-all}
 use Rattle.hb_console.proofs.Asking.{Asked, asked_none, asked_more, asked_first, asks_nothing}
+use Rattle.hb_console.proofs.Settled.{stores_kept, stays_kept}
 
--- these orders are done: they are what was asked so far, and the table, the disk and the output are as after them
-pub record Running (start : List Entry) (all rest : Option (List ℕ)) (number : ℕ) (table : Table) (content : Option Image) (left : ℕ → Image → Type 0) (last : ℕ) (old new : Option (List ℕ)) : Type 0 where
-  pub done : List Order
-  pub told : is_some rest ≡ is_some all
-  pub asked : IfSome all (λ input. IfSome rest (λ more. Asked input more done))
-  pub count : number ≡ length done
-  pub keeps : Keeps (entries_after start done) table
-  pub stores : Stores (entries_after start done) content left last
-  pub text : new ≡ with_end (replies 1 start done) old
+-- ---- the orders that were asked
 
 with_front_nothing : (told : Option (List ℕ)) → with_front [] told ≡ told
 with_front_nothing None = refl
 with_front_nothing (Some bytes) = refl
 
-pub asked_start : (all : Option (List ℕ)) → IfSome all (λ input. IfSome all (λ more. Asked input more []))
+abbrev pub AskedSoFar : Option (List ℕ) → Option (List ℕ) → List Order → Type 0
+AskedSoFar all rest done = IfSome all (λ input. IfSome rest (λ more. Asked input more done))
+
+pub asked_start : (all : Option (List ℕ)) → AskedSoFar all all []
 asked_start None = tt
 asked_start (Some input) = asked_none input
 
-pub runs_start : (start : List Entry) (all : Option (List ℕ)) (reader : List ℕ) (table : Table) (content : Option Image) (left : ℕ → Image → Type 0) (last : ℕ) (old : Option (List ℕ)) → reader ≡ [] → Keeps start table → Stores start content left last
-    → Running start all (with_front reader all) 0 table content left last old old
-runs_start start all reader table content left last old empty keeps stores =
-    let same : all ≡ with_front reader all = sym (ap (λ (l : List ℕ). with_front l all) empty ∙ with_front_nothing all) in
-    subst (λ (rest : Option (List ℕ)). Running start all rest 0 table content left last old old) same
-    (record { done = []; told = refl; asked = asked_start all; count = refl; keeps = keeps; stores = stores; text = with_end_nothing old })
-
-asked_on : (all rest more : Option (List ℕ)) (done : List Order) (order : Order) → IfSome all (λ input. IfSome rest (λ left. Asked input left done)) → NextOrder (Some order) rest more → IfSome all (λ input. IfSome more (λ left. Asked input left (done ++ order ∷ [])))
+pub asked_on : (all rest more : Option (List ℕ)) (done : List Order) (order : Order) → AskedSoFar all rest done → NextOrder (Some order) rest more → AskedSoFar all more (done ++ order ∷ [])
 asked_on None rest more done order asked next = tt
 asked_on (Some input) None None done order asked next = tt
 asked_on (Some input) None (Some m) done order asked next = let told : true ≡ false = next.0 in absurd (cc)
 asked_on (Some input) (Some r) None done order asked next = tt
 asked_on (Some input) (Some r) (Some m) done order asked next = asked_more input r m done order asked next.1
 
--- a run that stops where these orders were asked, and some front of the replies to them is out
-pub stops_at : (start : List Entry) (before after : Outside) (stop : Stop) (done later : List Order) (shown : List ℕ) → IsFront shown (replies 1 start done) → after.output ≡ with_end shown before.output → (stop ≢ Disk → Stores (entries_after start done) after.content after.left after.last) → StopsAt start before after stop (done ++ later)
-stops_at start before after stop done later shown within text stored = record {
-  shown = shown;
-  text = text;
-  front = front_trans shown (replies 1 start done) (run_text start (done ++ later)) within (replies_front start done later);
-  stores = λ other. (entries_after start done, stored other, has_shown start done later shown within);
-}
-
-pub for_asked : (all rest : Option (List ℕ)) (done : List Order) (P : List Order → Type 0) → is_some rest ≡ is_some all → IfSome all (λ input. IfSome rest (λ more. Asked input more done)) → ((later : List Order) → P (done ++ later)) → ForOrders all P
+pub for_asked : (all rest : Option (List ℕ)) (done : List Order) (P : List Order → Type 0) → is_some rest ≡ is_some all → AskedSoFar all rest done → ((later : List Order) → P (done ++ later)) → ForOrders all P
 for_asked None rest done P told asked each = tt
 for_asked (Some input) None done P told asked each = absurd (cc)
 for_asked (Some input) (Some more) done P told asked each = λ orders asks. let found = asked_first input more done orders asked asks in subst P (sym found.1) (each found.0)
 
-module _ (start : List Entry) (all rest more : Option (List ℕ)) (number n : ℕ) (table table' : Table) (content content' : Option Image) (left left' : ℕ → Image → Type 0) (last last' : ℕ) (old held : Option (List ℕ)) (running : Running start all rest number table content left last old held) (order : Order) (next : NextOrder (Some order) rest more) (number_is : n ≡ number + 1) (reply : Reply)
-    (serves : Serves (entries_with (entries_after start running.done) order) (reply_to n (entries_after start running.done) order) table' content' left' last' reply) where
-  abbrev done : List Order
-  done = running.done ++ order ∷ []
+-- ---- what is left behind
 
-  entries_are : entries_after start done ≡ entries_with (entries_after start running.done) order
-  entries_are = entries_after-append start running.done (order ∷ [])
+no_more : (xs : List ℕ) → IsFront xs xs
+no_more xs = ([], sym (append-nil xs))
 
-  replies_are : replies 1 start done ≡ replies 1 start running.done ++ bytes_of reply
-  replies_are = replies-push n start running.done order (omega (arith, number_is, running.count)) ∙ ap (λ (t : List ℕ). replies 1 start running.done ++ t) (sym serves.text)
+entries-push : (start : List Entry) (done : List Order) (order : Order) → entries_after start (done ++ order ∷ []) ≡ entries_with (entries_after start done) order
+entries-push start done order = entries_after-append start done (order ∷ [])
 
-  pub stores_on : Stores (entries_after start done) content' left' last'
-  stores_on = subst (λ (es : List Entry). Stores es content' left' last') (sym entries_are) serves.stores
+front_push : (start : List Entry) (done : List Order) (order : Order) → IsFront (replies 1 start done) (replies 1 start (done ++ order ∷ []))
+front_push start done order = (reply_to (1 + length done) (entries_after start done) order, replies-push (1 + length done) start done order refl)
 
-  pub runs_on : (new : Option (List ℕ)) (bytes : List ℕ) → bytes ≡ bytes_of reply → new ≡ with_end bytes held → Running start all more n table' content' left' last' old new
-  runs_on new bytes bytes_are put = record {
-    done = done;
-    told = next.0 ∙ running.told;
-    asked = asked_on all rest more running.done order running.asked next;
-    count = omega (arith, number_is, running.count, length-append running.done (order ∷ []));
-    keeps = subst (λ (es : List Entry). Keeps es table') (sym entries_are) serves.keeps;
-    stores = stores_on;
-    text = put ∙ ap (λ (b : List ℕ). with_end b held) bytes_are ∙ ap (with_end (bytes_of reply)) running.text ∙ with_end_twice old (replies 1 start running.done) (bytes_of reply) ∙ ap (λ (t : List ℕ). with_end t old) (sym replies_are);
-  }
+behind_more : (start : List Entry) (done more : List Order) (held out : Option (List ℕ)) (image : Image) → IsBehind start done held out image → IsBehind start (done ++ more) held out image
+behind_more start done more held out image behind = record {
+  first = behind.first;
+  later = behind.later ++ more;
+  split = ap (λ (os : List Order). os ++ more) behind.split ∙ append_assoc behind.first behind.later more;
+  has = behind.has;
+  shown = behind.shown;
+  gained = behind.gained;
+  front = behind.front;
+}
 
-  pub stops_on : (before after : Outside) (stop : Stop) (bytes : List ℕ) → bytes ≡ bytes_of reply → PutsPart held after.output bytes → old ≡ before.output → Stores (entries_after start done) after.content after.left after.last → ForOrders all (StopsAt start before after stop)
-  stops_on before after stop bytes bytes_are part old_is stored =
-      let text : List ℕ = replies 1 start running.done ++ take part.0 bytes in
-      let front : IsFront text (replies 1 start done) = subst (λ (t : List ℕ). IsFront text t) (sym (replies_are ∙ ap (λ (b : List ℕ). replies 1 start running.done ++ b) (sym bytes_are))) (front_part part.0 (replies 1 start running.done) bytes) in
-      let out : after.output ≡ with_end text before.output = part.1 ∙ ap (with_end (take part.0 bytes)) running.text ∙ with_end_twice old (replies 1 start running.done) (take part.0 bytes) ∙ ap (with_end text) old_is in
-      for_asked all more done (StopsAt start before after stop) (next.0 ∙ running.told) (asked_on all rest more running.done order running.asked next)
-      (λ later. stops_at start before after stop done later text front out (λ other. stored))
+has_as : (image : Image) (a b : List Entry) → a ≡ b → HasEntries image a → HasEntries image b
+has_as image a b same has = subst (HasEntries image) same has
 
--- a run that stops between two orders, or within one of which nothing is out
-pub running_stops : (start : List Entry) (before after : Outside) (rest : Option (List ℕ)) (number : ℕ) (table : Table) (content : Option Image) (left : ℕ → Image → Type 0) (last : ℕ) (stop : Stop)
-    → (running : Running start before.input rest number table content left last before.output after.output) → (stop ≢ Disk → Stores (entries_after start running.done) after.content after.left after.last) → ForOrders before.input (StopsAt start before after stop)
-running_stops start before after rest number table content left last stop running stored =
-    for_asked before.input rest running.done (StopsAt start before after stop) running.told running.asked
-    (λ later. stops_at start before after stop running.done later (replies 1 start running.done) ([], sym (append-nil (replies 1 start running.done))) running.text stored)
-
-ended_source : (reader : List ℕ) (input : Option (List ℕ)) → with_front reader input ≡ Some [] → input ≡ Some []
-ended_source reader None is = absurd (cc)
-ended_source reader (Some bytes) is =
-    let all : reader ++ bytes ≡ [] = cc in
-    let none : length bytes ≡ 0 = omega (arith, ap length all, length-append reader bytes) in
-    ap (λ (l : List ℕ). Some l) (nil_from_length bytes none)
-
--- a run at the end of its source
-pub running_ends : (start : List Entry) (before after : Outside) (rest : Option (List ℕ)) (reader : List ℕ) (number : ℕ) (table : Table) → Running start before.input rest number table after.content after.left after.last before.output after.output → NextOrder None rest (with_front reader after.input) → ForOrders before.input (Answers start before after number)
-running_ends start before after rest reader number table running next = by before.input rest running.told running.asked next
+-- an order was in the works, and nothing of its reply was put
+pub behind_served : (since moment put_at : ℕ) (start : List Entry) (done : List Order) (order : Order) (held output : Option (List ℕ)) (shown : ℕ → Option (List ℕ)) (old new : ℕ → Image → Type 0) (entries : List Entry)
+    → BehindSince since start done held shown old → Leaves moment old new (λ m image. HasEither entries (entries_with entries order) image) → entries ≡ entries_after start done
+    → put_at ≤ moment → ((m : ℕ) → put_at ≤ m → shown m ≡ output) → output ≡ with_end (replies 1 start done) held
+    → BehindSince since start (done ++ order ∷ []) held shown new
+behind_served since moment put_at start done order held output shown old new entries behind leaves entries_are in_time stands text m image le is =
+    ⊎_elim (λ early. behind_more start done (order ∷ []) held (shown m) image (behind m image le (leaves.before m image early is)))
+    (λ late. ⊎_elim (λ was. before late was) (λ now. after late now) (leaves.each m image late is))
+    (cases_lt m moment)
   where
-    by : (all rest : Option (List ℕ)) → is_some rest ≡ is_some all → IfSome all (λ input. IfSome rest (λ more. Asked input more running.done)) → NextOrder None rest (with_front reader after.input) → ForOrders all (Answers start before after number)
-    by None rest told asked next = tt
-    by (Some input) None told asked next = absurd (cc)
-    by (Some input) (Some more) told asked next = λ orders asks.
-        let found = asked_first input more running.done orders asked asks in
-        let none : found.0 ≡ [] = asks_nothing found.0 (subst (λ (l : List ℕ). AskAll (lines_of l) found.0) next.0 found.2) in
-        let all : orders ≡ running.done = found.1 ∙ ap (λ (os : List Order). running.done ++ os) none ∙ append-nil running.done in
-        subst (Answers start before after number) (sym all) (record {
-          count = running.count;
-          ended = ended_source reader after.input next.1;
-          stores = running.stores;
-          text = running.text;
-        })
+    out : moment ≤ m → shown m ≡ with_end (replies 1 start done) held
+    out late = stands m (omega (arith, late, in_time)) ∙ text
+
+    before : moment ≤ m → HasEntries image entries → IsBehind start (done ++ order ∷ []) held (shown m) image
+    before late was = record { first = done; later = order ∷ []; split = refl; has = has_as image _ _ entries_are was; shown = replies 1 start done; gained = out late; front = no_more (replies 1 start done) }
+
+    after : moment ≤ m → HasEntries image (entries_with entries order) → IsBehind start (done ++ order ∷ []) held (shown m) image
+    after late now = record {
+      first = done ++ order ∷ [];
+      later = [];
+      split = sym (append-nil (done ++ order ∷ []));
+      has = has_as image _ _ (ap (λ (es : List Entry). entries_with es order) entries_are ∙ sym (entries-push start done order)) now;
+      shown = replies 1 start done;
+      gained = out late;
+      front = front_push start done order;
+    }
+
+-- some text was put while the log was settled
+pub behind_put : (since moment : ℕ) (start : List Entry) (done : List Order) (held : Option (List ℕ)) (shown shown' : ℕ → Option (List ℕ)) (left : ℕ → Image → Type 0) (text : List ℕ)
+    → BehindSince since start done held shown left → ((m : ℕ) → m < moment → shown' m ≡ shown m) → ((m : ℕ) → moment ≤ m → shown' m ≡ with_end text held)
+    → ((m : ℕ) (image : Image) → moment ≤ m → left m image → HasEntries image (entries_after start done)) → IsFront text (replies 1 start done) → BehindSince since start done held shown' left
+behind_put since moment start done held shown shown' left text behind before now stays front m image le is =
+    ⊎_elim (λ early. subst (λ (o : Option (List ℕ)). IsBehind start done held o image) (sym (before m early)) (behind m image le is))
+    (λ late. record { first = done; later = []; split = sym (append-nil done); has = stays m image late is; shown = text; gained = now m late; front = front })
+    (cases_lt m moment)
+
+-- what is behind survives
+pub survives_behind : (start : List Entry) (done later : List Order) (held out : Option (List ℕ)) (image : Image) → IsBehind start done held out image → Survives start (done ++ later) held out image
+survives_behind start done later held out image behind = record {
+  entries = entries_after start behind.first;
+  has = behind.has;
+  shown = behind.shown;
+  gained = behind.gained;
+  has_shown = subst (λ (os : List Order). HasShown start os behind.shown (entries_after start behind.first)) (sym (ap (λ (os : List Order). os ++ later) behind.split ∙ append_assoc behind.first behind.later later))
+      (has_shown start behind.first (behind.later ++ later) behind.shown behind.front);
+}
+
+-- ---- where a run stops
+
+-- what the disk stores where a run stopped
+pub record StoresFirst (start : List Entry) (done : List Order) (shown : List ℕ) (after : Outside) : Type 0 where
+  pub first : List Order
+  pub later : List Order
+  pub split : done ≡ first ++ later
+  pub stores : Stores (entries_after start first) after.content after.left after.last
+  pub front : IsFront shown (replies 1 start first)
+
+-- a run stopped when these orders were done or in the works
+pub record Halts (since : ℕ) (all held : Option (List ℕ)) (after : Outside) (start : List Entry) (stop : Stop) : Type 0 where
+  pub rest : Option (List ℕ)
+  pub done : List Order
+  pub told : is_some rest ≡ is_some all
+  pub asked : AskedSoFar all rest done
+  pub shown : List ℕ
+  pub text : after.output ≡ with_end shown held
+  pub front : IsFront shown (replies 1 start done)
+  pub stored : stop ≢ Disk → StoresFirst start done shown after
+  pub behind : BehindSince since start done held after.shown after.left
+
+halts_stops : (since : ℕ) (before after : Outside) (start : List Entry) (stop : Stop) → Halts since before.input before.output after start stop → ForOrders before.input (StopsAt before after start stop)
+halts_stops since before after start stop halts = for_asked before.input halts.rest halts.done _ halts.told halts.asked (λ later. record {
+  shown = halts.shown;
+  text = halts.text;
+  front = front_trans halts.shown (replies 1 start halts.done) (run_text start (halts.done ++ later)) halts.front (replies_front start halts.done later);
+  stores = λ other.
+      let s = halts.stored other in (
+        entries_after start s.first,
+        s.stores,
+        subst (λ (os : List Order). HasShown start os halts.shown (entries_after start s.first)) (sym (ap (λ (os : List Order). os ++ later) s.split ∙ append_assoc s.first s.later later)) (has_shown start s.first (s.later ++ later) halts.shown s.front),
+      );
+})
+
+halts_survives : (since : ℕ) (before after : Outside) (start : List Entry) (stop : Stop) → Halts since before.input before.output after start stop → ForOrders before.input (SurviveSince since before after start)
+halts_survives since before after start stop halts = for_asked before.input halts.rest halts.done _ halts.told halts.asked (λ later m image le is. survives_behind start halts.done later before.output (after.shown m) image (halts.behind m image le is))
 
 -- a stop by one device
 pub by_device : (before after : Faults) (device stop : Stop) (was now : ℕ) → (((stop ≡ device) × Rose was now) ⊎ (stop ≡ Memory)) → (Rose was now → MayStop before after device) → MayStop before after stop
 by_device before after device stop was now (inl cause) rose = subst (MayStop before after) (sym cause.0) (rose cause.1)
 by_device before after device stop was now (inr memory) rose = subst (MayStop before after) (sym memory) tt
 
--- what a run that stopped owes
-runs_stopped : (table : Table) (before after : Outside) (stop : Stop) → GoesOn before after → MayStop before.faults after.faults stop → ((start : List Entry) → Keeps start table → Stores start before.content before.left before.last → ForOrders before.input (StopsAt start before after stop))
-    → (e : Stop) → e ≡ stop → (result : Result ℕ Stop) → result ≡ Err e → Runs table before after result
-runs_stopped table before after stop goes_on cause stops e same result is =
-    subst (λ (r : Result ℕ Stop). Runs table before after r) (sym (is ∙ ap (λ (s : Stop). Err s) same))
-    (record { goes_on = goes_on; cause = cause; done = λ start keeps stores. tt; stopped = stops })
-
--- it stopped where nothing was out of an order's reply
-pub stopped_between : (table : Table) (before after : Outside) (rest : Option (List ℕ)) (number : ℕ) (table' : Table) (content : Option Image) (left : ℕ → Image → Type 0) (last : ℕ) (stop : Stop) → GoesOn before after → MayStop before.faults after.faults stop
-    → ((start : List Entry) → Keeps start table → Stores start before.content before.left before.last → Running start before.input rest number table' content left last before.output after.output)
-    → ((start : List Entry) (running : Running start before.input rest number table' content left last before.output after.output) → stop ≢ Disk → Stores (entries_after start running.done) after.content after.left after.last)
-    → (e : Stop) → e ≡ stop → (result : Result ℕ Stop) → result ≡ Err e → Runs table before after result
-stopped_between table before after rest number table' content left last stop goes_on cause runs stored =
-    runs_stopped table before after stop goes_on cause (λ start keeps stores. let running = runs start keeps stores in running_stops start before after rest number table' content left last stop running (stored start running))
-
--- it stopped before the first order
-pub stopped_first : (table : Table) (before after : Outside) (stop : Stop) → GoesOn before after → MayStop before.faults after.faults stop → after.output ≡ before.output
-    → ((start : List Entry) → Stores start before.content before.left before.last → Stores start after.content after.left after.last) → (e : Stop) → e ≡ stop → (result : Result ℕ Stop) → result ≡ Err e → Runs table before after result
-stopped_first table before after stop goes_on cause same kept =
-    runs_stopped table before after stop goes_on cause (λ start keeps stores. for_asked before.input before.input [] (StopsAt start before after stop) refl (asked_start before.input)
-    (λ later. stops_at start before after stop [] later [] ([], refl) (same ∙ with_end_nothing before.output) (λ other. kept start stores)))
-
--- it stopped where a part of an order's reply was out
-pub stopped_within : (table : Table) (before after : Outside) (rest more : Option (List ℕ)) (number n : ℕ) (table' table'' : Table) (content : Option Image) (left : ℕ → Image → Type 0) (last : ℕ) (held : Option (List ℕ)) (order : Order) (reply : Reply) (stop : Stop) → GoesOn before after → MayStop before.faults after.faults stop
-    → ((start : List Entry) → Keeps start table → Stores start before.content before.left before.last → Running start before.input rest number table' content left last before.output held)
-    → NextOrder (Some order) rest more → n ≡ number + 1
-    → ((start : List Entry) (running : Running start before.input rest number table' content left last before.output held) → Serves (entries_with (entries_after start running.done) order) (reply_to n (entries_after start running.done) order) table'' after.content after.left after.last reply)
-    → PutsPart held after.output (bytes_of reply) → (e : Stop) → e ≡ stop → (result : Result ℕ Stop) → result ≡ Err e → Runs table before after result
-stopped_within table before after rest more number n table' table'' content left last held order reply stop goes_on cause runs next number_is served part =
-    runs_stopped table before after stop goes_on cause (λ start keeps stores. let running = runs start keeps stores in
-    stops_on start before.input rest more number n table' table'' content after.content left after.left last after.last before.output held running order next number_is reply (served start running) before after stop (bytes_of reply) refl part refl
-    (stores_on start before.input rest more number n table' table'' content after.content left after.left last after.last before.output held running order next number_is reply (served start running)))
-
--- it came to the end of its source
-pub runs_ended : (table : Table) (before after : Outside) (rest : Option (List ℕ)) (reader : List ℕ) (number : ℕ) (table' : Table) → GoesOn before after
-    → ((start : List Entry) → Keeps start table → Stores start before.content before.left before.last → Running start before.input rest number table' after.content after.left after.last before.output after.output)
-    → NextOrder None rest (with_front reader after.input) → Runs table before after (Ok number)
-runs_ended table before after rest reader number table' goes_on runs next =
-    record { goes_on = goes_on; cause = tt; done = λ start keeps stores. running_ends start before after rest reader number table' (runs start keeps stores) next; stopped = λ start keeps stores. tt }
-
 -- after a call of one device
 pub goes_nowhere : (outside : Outside) → GoesOn outside outside
-goes_nowhere outside = record { source = omega arith; sink = omega arith; disk = omega arith; output = refl; content = refl }
-
-pub goes_twice : (before mid after : Outside) → GoesOn before mid → GoesOn mid after → GoesOn before after
-goes_twice before mid after first second = record {
-  source = omega (arith, first.source, second.source);
-  sink = omega (arith, first.sink, second.sink);
-  disk = omega (arith, first.disk, second.disk);
-  output = second.output ∙ first.output;
-  content = second.content ∙ first.content;
-}
+goes_nowhere outside = record { source = omega arith; sink = omega arith; disk = omega arith; moment = omega arith; output = refl; content = refl }
 
 -- a count that rose since a later moment
 pub rose_since : (before mid now : ℕ) → before ≤ mid → Rose mid now → Rose before now
 rose_since before mid now later rose = omega arith
+
+module _ {D : Type 0} (content : D → Option Image) (left : D → ℕ → Image → Type 0) (last : D → ℕ) where
+  -- these orders are done, and they are what was asked so far
+  pub record Running (since : ℕ) (start : List Entry) (all rest held : Option (List ℕ)) (number : ℕ) (table : Table D) (output : Option (List ℕ)) (shown : ℕ → Option (List ℕ)) (put_at moment : ℕ) : Type 0 where
+    pub done : List Order
+    pub told : is_some rest ≡ is_some all
+    pub asked : AskedSoFar all rest done
+    pub count : number ≡ length done
+    pub reached : Reached content left last since held start done table output shown put_at moment
+
+  pub runs_start : (since : ℕ) (start : List Entry) (all : Option (List ℕ)) (reader : List ℕ) (table : Table D) (output : Option (List ℕ)) (shown : ℕ → Option (List ℕ)) (put_at moment : ℕ) → reader ≡ [] → Reached content left last since output start [] table output shown put_at moment
+      → Running since start all (with_front reader all) output 0 table output shown put_at moment
+  runs_start since start all reader table output shown put_at moment empty reached =
+      let same : all ≡ with_front reader all = sym (ap (λ (l : List ℕ). with_front l all) empty ∙ with_front_nothing all) in
+      subst (λ (rest : Option (List ℕ)). Running since start all rest output 0 table output shown put_at moment) same
+      (record { done = []; told = refl; asked = asked_start all; count = refl; reached = reached })
+
+  abbrev pub view : Option (List ℕ) → Option (List ℕ) → (ℕ → Option (List ℕ)) → ℕ → ℕ → Faults → Table D → Outside
+  view input output shown put_at moment faults table = record { input = input; output = output; shown = shown; put_at = put_at; content = content table.log.disk; left = left table.log.disk; last = last table.log.disk; moment = moment; faults = faults }
+
+  abbrev Stands : Table D → Type 0
+  Stands table = (m : ℕ) (image : Image) → last table.log.disk ≤ m → left table.log.disk m image → left table.log.disk (last table.log.disk) image
+
+  -- one put, at a moment
+  pub record IsPut (shown shown' : ℕ → Option (List ℕ)) (put_at put_at' moment moment' : ℕ) (output' : Option (List ℕ)) : Type 0 where
+    pub before : (m : ℕ) → m < moment' → shown' m ≡ shown m
+    pub clock : moment' ≡ tick moment
+    pub last_put : put_at' ≡ max put_at moment'
+    pub now : (m : ℕ) → put_at' ≤ m → shown' m ≡ output'
+
+  -- it stopped between two orders, or before the first
+  pub halts_between : (since : ℕ) (start : List Entry) (all rest held : Option (List ℕ)) (number : ℕ) (table : Table D) (input output : Option (List ℕ)) (shown : ℕ → Option (List ℕ)) (put_at moment : ℕ) (faults : Faults) (stop : Stop) → Stands table
+      → Running since start all rest held number table output shown put_at moment → Halts since all held (view input output shown put_at moment faults table) start stop
+  halts_between since start all rest held number table input output shown put_at moment faults stop stands running = record {
+    rest = rest;
+    done = running.done;
+    told = running.told;
+    asked = running.asked;
+    shown = replies 1 start running.done;
+    text = running.reached.text;
+    front = no_more (replies 1 start running.done);
+    stored = λ other. record {
+      first = running.done;
+      later = [];
+      split = sym (append-nil running.done);
+      stores = subst (λ (es : List Entry). Stores es (content table.log.disk) (left table.log.disk) (last table.log.disk)) running.reached.entries (stores_kept content left last running.reached.kept table.log moment stands running.reached.ready.log);
+      front = no_more (replies 1 start running.done);
+    };
+    behind = running.reached.behind;
+  }
+
+  pub runs_none : (since : ℕ) (start : List Entry) (all : Option (List ℕ)) (table : Table D) (output : Option (List ℕ)) (shown : ℕ → Option (List ℕ)) (put_at moment : ℕ) → Reached content left last since output start [] table output shown put_at moment
+      → Running since start all all output 0 table output shown put_at moment
+  runs_none since start all table output shown put_at moment reached = record { done = []; told = refl; asked = asked_start all; count = refl; reached = reached }
+
+  module _ (since : ℕ) (start : List Entry) (all rest more held : Option (List ℕ)) (number : ℕ) (table table' : Table D) (output : Option (List ℕ)) (shown : ℕ → Option (List ℕ)) (put_at moment : ℕ)
+      (running : Running since start all rest held number table output shown put_at moment) (order : Order) (next : NextOrder (Some order) rest more) (now : (m : ℕ) → put_at ≤ m → shown m ≡ output)
+      (leaves : (kept : Kept) → IsReady content left last kept table moment → Leaves moment (left table.log.disk) (left table'.log.disk) (λ m image. HasEither kept.entries (entries_with kept.entries order) image)) where
+    abbrev pub done_now : List Order
+    done_now = running.done ++ order ∷ []
+
+    told_now : is_some more ≡ is_some all
+    told_now = next.0 ∙ running.told
+
+    asked_now : AskedSoFar all more done_now
+    asked_now = asked_on all rest more running.done order running.asked next
+
+    served : BehindSince since start done_now held shown (left table'.log.disk)
+    served = behind_served since moment put_at start running.done order held output shown (left table.log.disk) (left table'.log.disk) running.reached.kept.entries running.reached.behind (leaves running.reached.kept running.reached.ready) running.reached.entries
+        running.reached.in_time now running.reached.text
+
+    -- an order wasn't done
+    pub halts_served : (input : Option (List ℕ)) (moment' : ℕ) (faults : Faults) (stop : Stop)
+        → ((kept : Kept) → IsReady content left last kept table moment → stop ≢ Disk → Stores kept.entries (content table'.log.disk) (left table'.log.disk) (last table'.log.disk))
+        → Halts since all held (view input output shown put_at moment' faults table') start stop
+    halts_served input moment' faults stop stored = record {
+      rest = more;
+      done = done_now;
+      told = told_now;
+      asked = asked_now;
+      shown = replies 1 start running.done;
+      text = running.reached.text;
+      front = front_push start running.done order;
+      stored = λ other. record {
+        first = running.done;
+        later = order ∷ [];
+        split = refl;
+        stores = subst (λ (es : List Entry). Stores es (content table'.log.disk) (left table'.log.disk) (last table'.log.disk)) running.reached.entries (stored running.reached.kept running.reached.ready other);
+        front = no_more (replies 1 start running.done);
+      };
+      behind = served;
+    }
+
+    module _ (n moment' : ℕ) (number_is : n ≡ number + 1) (later : moment ≤ moment') (stands : Stands table') (reply : Reply)
+        (answers : (kept : Kept) → IsReady content left last kept table moment → Answers content left last (entries_with kept.entries order) (reply_to n kept.entries order) table' moment' reply) where
+      answered : Answers content left last (entries_with running.reached.kept.entries order) (reply_to n running.reached.kept.entries order) table' moment' reply
+      answered = answers running.reached.kept running.reached.ready
+
+      entries_now : answered.kept.entries ≡ entries_after start done_now
+      entries_now = answered.entries_are ∙ ap (λ (es : List Entry). entries_with es order) running.reached.entries ∙ sym (entries-push start running.done order)
+
+      replies_now : replies 1 start done_now ≡ replies 1 start running.done ++ bytes_of reply
+      replies_now =
+          let number_of : n ≡ 1 + length running.done = omega (arith, number_is, running.count) in
+          let text : bytes_of reply ≡ reply_to n (entries_after start running.done) order = answered.text ∙ ap (λ (es : List Entry). reply_to n es order) running.reached.entries in
+          replies-push n start running.done order number_of ∙ ap (λ (t : List ℕ). replies 1 start running.done ++ t) (sym text)
+
+      stays : (m : ℕ) (image : Image) → moment' ≤ m → left table'.log.disk m image → HasEntries image (entries_after start done_now)
+      stays m image le is = has_as image _ _ entries_now (stays_kept content left last answered.kept table'.log moment' stands answered.ready.log m image le is)
+
+      module _ (shown' : ℕ → Option (List ℕ)) (put_at' moment'' : ℕ) (output' : Option (List ℕ)) (put : IsPut shown shown' put_at put_at' moment' moment'' output') where
+        put_behind : (text : List ℕ) → output' ≡ with_end text held → IsFront text (replies 1 start done_now) → BehindSince since start done_now held shown' (left table'.log.disk)
+        put_behind text text_is front = behind_put since moment'' start done_now held shown shown' (left table'.log.disk) text served put.before
+            (λ m le. put.now m (omega (arith, le, put.last_put, put.clock, running.reached.in_time, later)) ∙ text_is)
+            (λ m image le is. stays m image (omega (arith, le, put.clock)) is) front
+
+        in_time_now : put_at' ≤ moment''
+        in_time_now = omega (arith, put.last_put, put.clock, running.reached.in_time, later)
+
+        -- its reply is out
+        pub runs_on : (bytes : List ℕ) → bytes ≡ bytes_of reply → output' ≡ with_end bytes output → Running since start all more held n table' output' shown' put_at' moment''
+        runs_on bytes bytes_are out =
+            let text : output' ≡ with_end (replies 1 start done_now) held = out ∙ ap (λ (b : List ℕ). with_end b output) bytes_are ∙ ap (with_end (bytes_of reply)) running.reached.text ∙ with_end_twice held (replies 1 start running.done) (bytes_of reply) ∙ ap (λ (t : List ℕ). with_end t held) (sym replies_now) in
+            record {
+              done = done_now;
+              told = told_now;
+              asked = asked_now;
+              count = omega (arith, number_is, running.count, length-append running.done (order ∷ []));
+              reached = record {
+                kept = answered.kept;
+                ready = record { log = record { placed = answered.ready.log.placed; settled = answered.ready.log.settled; keeps = answered.ready.log.keeps; in_time = omega (arith, answered.ready.log.in_time, put.clock) }; committed = answered.ready.committed };
+                entries = entries_now;
+                text = text;
+                in_time = in_time_now;
+                behind = put_behind (replies 1 start done_now) text (no_more (replies 1 start done_now));
+              };
+            }
+
+        -- a part of its reply is out
+        pub halts_within : (input : Option (List ℕ)) (faults : Faults) (stop : Stop) (bytes : List ℕ) → bytes ≡ bytes_of reply → PutsPart output output' bytes
+            → Halts since all held (view input output' shown' put_at' moment'' faults table') start stop
+        halts_within input faults stop bytes bytes_are part =
+            let text : List ℕ = replies 1 start running.done ++ take part.0 bytes in
+            let front : IsFront text (replies 1 start done_now) = subst (λ (t : List ℕ). IsFront text t) (sym (replies_now ∙ ap (λ (b : List ℕ). replies 1 start running.done ++ b) (sym bytes_are))) (front_part part.0 (replies 1 start running.done) bytes) in
+            let out : output' ≡ with_end text held = part.1 ∙ ap (with_end (take part.0 bytes)) running.reached.text ∙ with_end_twice held (replies 1 start running.done) (take part.0 bytes) in
+            record {
+              rest = more;
+              done = done_now;
+              told = told_now;
+              asked = asked_now;
+              shown = text;
+              text = out;
+              front = front;
+              stored = λ other. record {
+                first = done_now;
+                later = [];
+                split = sym (append-nil done_now);
+                stores = subst (λ (es : List Entry). Stores es (content table'.log.disk) (left table'.log.disk) (last table'.log.disk)) entries_now (stores_kept content left last answered.kept table'.log moment' stands answered.ready.log);
+                front = front;
+              };
+              behind = put_behind text out front;
+            }
+
+  -- a run that stopped
+  pub runs_stopped : (table : Table D) (before after : Outside) (stop : Stop) → GoesOn before after → MayStop before.faults after.faults stop
+      → ((since : ℕ) (start : List Entry) → Reached content left last since before.output start [] table before.output before.shown before.put_at before.moment → Halts since before.input before.output after start stop)
+      → (e : Stop) → e ≡ stop → (result : Result (Unit {0}) Stop) → result ≡ Err e → Runs content left last table before after result
+  runs_stopped table before after stop goes_on cause halts e same result is =
+      subst (λ (r : Result (Unit {0}) Stop). Runs content left last table before after r) (sym (is ∙ ap (λ (s : Stop). Err s) same)) (record {
+        goes_on = goes_on;
+        cause = cause;
+        done = λ since start reached. tt;
+        stopped = λ since start reached. halts_stops since before after start stop (halts since start reached);
+        survives = λ since start reached. halts_survives since before after start stop (halts since start reached);
+      })
+
+  -- the source came to its end, and the count of lines is put, or a part of it
+  module _ (since : ℕ) (start : List Entry) (before : Outside) (rest : Option (List ℕ)) (reader : List ℕ) (number : ℕ) (table : Table D) (input output : Option (List ℕ)) (shown : ℕ → Option (List ℕ)) (put_at moment : ℕ)
+      (running : Running since start before.input rest before.output number table output shown put_at moment) (next : NextOrder None rest (with_front reader input)) (stands : Stands table)
+      (shown' : ℕ → Option (List ℕ)) (put_at' moment' : ℕ) (output' : Option (List ℕ)) (put : IsPut shown shown' put_at put_at' moment moment' output') (faults : Faults) where
+    abbrev after : Outside
+    after = view input output' shown' put_at' moment' faults table
+
+    ended_source : (input : Option (List ℕ)) → with_front reader input ≡ Some [] → input ≡ Some []
+    ended_source None is = absurd (cc)
+    ended_source (Some bytes) is =
+        let all : reader ++ bytes ≡ [] = cc in
+        let none : length bytes ≡ 0 = omega (arith, ap length all, length-append reader bytes) in
+        ap (λ (l : List ℕ). Some l) (nil_from_length bytes none)
+
+    -- all orders are done, and the source is at its end
+    for_all : (P : List Order → Type 0) → (input ≡ Some [] → P running.done) → ForOrders before.input P
+    for_all P each = by before.input rest running.told running.asked next
+      where
+        by : (all rest : Option (List ℕ)) → is_some rest ≡ is_some all → AskedSoFar all rest running.done → NextOrder None rest (with_front reader input) → ForOrders all P
+        by None rest told asked next = tt
+        by (Some given) None told asked next = absurd (cc)
+        by (Some given) (Some more) told asked next = λ orders asks.
+            let found = asked_first given more running.done orders asked asks in
+            let none : found.0 ≡ [] = asks_nothing found.0 (subst (λ (l : List ℕ). AskAll (lines_of l) found.0) next.0 found.2) in
+            let all : orders ≡ running.done = found.1 ∙ ap (λ (os : List Order). running.done ++ os) none ∙ append-nil running.done in
+            subst P (sym all) (each (ended_source input next.1))
+
+    stores_now : Stores (entries_after start running.done) after.content after.left after.last
+    stores_now = subst (λ (es : List Entry). Stores es (content table.log.disk) (left table.log.disk) (last table.log.disk)) running.reached.entries (stores_kept content left last running.reached.kept table.log moment stands running.reached.ready.log)
+
+    -- whatever part of the count is out
+    survives_last : (text : List ℕ) → output' ≡ with_end text output → SurviveSince since before after start running.done
+    survives_last text out m image le is =
+        ⊎_elim (λ early. subst (λ (o : Option (List ℕ)). Survives start running.done before.output o image) (sym (put.before m early))
+        (subst (λ (os : List Order). Survives start os before.output (shown m) image) (append-nil running.done) (survives_behind start running.done [] before.output (shown m) image (running.reached.behind m image le is))))
+        (λ late. record {
+          entries = entries_after start running.done;
+          has = has_as image _ _ running.reached.entries (stays_kept content left last running.reached.kept table.log moment stands running.reached.ready.log m image (omega (arith, late, put.clock)) is);
+          shown = replies 1 start running.done ++ text;
+          gained = put.now m (omega (arith, late, put.last_put, put.clock, running.reached.in_time)) ∙ out ∙ ap (with_end text) running.reached.text ∙ with_end_twice before.output (replies 1 start running.done) text;
+          has_shown = has_shown-all start running.done (replies 1 start running.done ++ text);
+        })
+        (cases_lt m moment')
+
+    finishes : (bytes : List ℕ) → bytes ≡ lines_text number → output' ≡ with_end bytes output → ForOrders before.input (Finishes before after start)
+    finishes bytes is out = for_all (Finishes before after start) (λ ended. record {
+      text = out ∙ ap (with_end bytes) running.reached.text ∙ with_end_twice before.output (replies 1 start running.done) bytes
+          ∙ ap (λ (t : List ℕ). with_end (replies 1 start running.done ++ t) before.output) (is ∙ ap lines_text running.count);
+      stores = stores_now;
+      ended = ended;
+    })
+
+    stops_last : (bytes : List ℕ) (stop : Stop) → bytes ≡ lines_text number → PutsPart output output' bytes → ForOrders before.input (StopsAt before after start stop)
+    stops_last bytes stop is part = for_all (StopsAt before after start stop) (λ ended.
+        let line : bytes ≡ lines_text (length running.done) = is ∙ ap lines_text running.count in
+        let text : List ℕ = replies 1 start running.done ++ take part.0 bytes in
+        record {
+          shown = text;
+          text = part.1 ∙ ap (with_end (take part.0 bytes)) running.reached.text ∙ with_end_twice before.output (replies 1 start running.done) (take part.0 bytes);
+          front = subst (λ (l : List ℕ). IsFront text (replies 1 start running.done ++ l)) line (front_part part.0 (replies 1 start running.done) bytes);
+          stores = λ other. (entries_after start running.done, stores_now, has_shown-all start running.done text);
+        })
+
+    survives_all : (text : List ℕ) → output' ≡ with_end text output → ForOrders before.input (SurviveSince since before after start)
+    survives_all text out = for_all (SurviveSince since before after start) (λ ended. survives_last text out)
+
+    pub done_last : (bytes : List ℕ) → bytes ≡ lines_text number → (result : Result (Unit {0}) Stop) → OnOk result (output' ≡ with_end bytes output) → IfOk result (λ _. ForOrders before.input (Finishes before after start))
+    done_last bytes is (Ok done) all = finishes bytes is all
+    done_last bytes is (Err stop) all = tt
+
+    pub stopped_last : (bytes : List ℕ) → bytes ≡ lines_text number → (result : Result (Unit {0}) Stop) → OnErr result (PutsPart output output' bytes) → IfErr result (λ stop. ForOrders before.input (StopsAt before after start stop))
+    stopped_last bytes is (Ok done) part = tt
+    stopped_last bytes is (Err stop) part = stops_last bytes stop is part
+
+    pub survives_end : (bytes : List ℕ) (result : Result (Unit {0}) Stop) → OnOk result (output' ≡ with_end bytes output) → OnErr result (PutsPart output output' bytes) → ForOrders before.input (SurviveSince since before after start)
+    survives_end bytes (Ok done) all part = survives_all bytes all
+    survives_end bytes (Err stop) all part = survives_all (take part.0 bytes) part.1
+
+-- a put that stopped
+pub cause_last : (before after : Faults) (was now : ℕ) (result : Result (Unit {0}) Stop) → StopsBy Sink was now result → (Rose was now → Rose before.sink after.sink) → IfErr result (MayStop before after)
+cause_last first then was now (Ok done) by rose = tt
+cause_last first then was now (Err stop) by rose = by_device first then Sink stop was now by.cause rose

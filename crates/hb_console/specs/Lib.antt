@@ -2,5 +2,8 @@ pub mod Stops
 pub mod Outside
 pub mod Replies
 pub mod Tables
+pub mod Replays
+pub mod Inserts
+pub mod Openings
 pub mod Runs
 pub mod Ends

@@ -11,31 +11,44 @@ pub record Faults : Type 0 where
   pub sink : ℕ
   pub disk : ℕ
 
--- the input that is left, the output so far, what the disk reads as, and what a stop leaves of it
+-- the input that is left; the output so far, what was out at each moment, and when the last was put; what the disk reads
+-- as, what a stop at each moment leaves of it, and when it was called last; the moment of the clock
 pub record Outside : Type 1 where
   pub input : Option (List ℕ)
   pub output : Option (List ℕ)
+  pub shown : ℕ → Option (List ℕ)
+  pub put_at : ℕ
   pub content : Option Image
   pub left : ℕ → Image → Type 0
   pub last : ℕ
+  pub moment : ℕ
   pub faults : Faults
 
 -- by the meanings of the three traits
-abbrev pub seen : {S O D : Type 0} → (S → Option (List ℕ)) → (S → ℕ) → (O → Option (List ℕ)) → (O → ℕ) → (D → Option Image) → (D → ℕ → Image → Type 0) → (D → ℕ) → (D → ℕ) → S → O → D → Outside
-seen input source_faults output sink_faults content left last disk_faults source sink disk = record {
+abbrev pub seen : {S O D : Type 0} → (S → Option (List ℕ)) → (S → ℕ) → (O → Option (List ℕ)) → (O → ℕ → Option (List ℕ)) → (O → ℕ) → (O → ℕ) → (D → Option Image) → (D → ℕ → Image → Type 0) → (D → ℕ) → (D → ℕ) → S → O → D → ℕ → Outside
+seen input source_faults output shown put_at sink_faults content left last disk_faults source sink disk moment = record {
   input = input source;
   output = output sink;
+  shown = shown sink;
+  put_at = put_at sink;
   content = content disk;
   left = left disk;
   last = last disk;
+  moment = moment;
   faults = record { source = source_faults source; sink = sink_faults sink; disk = disk_faults disk };
 }
 
--- no count fell, and what told its bytes goes on to tell them
+-- neither device was called after the moment of the clock
+pub record IsInTime (outside : Outside) : Type 0 where
+  pub disk : outside.last ≤ outside.moment
+  pub sink : outside.put_at ≤ outside.moment
+
+-- no count fell, the clock didn't go back, and what told its bytes goes on to tell them
 pub record GoesOn (before after : Outside) : Type 0 where
   pub source : before.faults.source ≤ after.faults.source
   pub sink : before.faults.sink ≤ after.faults.sink
   pub disk : before.faults.disk ≤ after.faults.disk
+  pub moment : before.moment ≤ after.moment
   pub output : is_some after.output ≡ is_some before.output
   pub content : is_some after.content ≡ is_some before.content
 

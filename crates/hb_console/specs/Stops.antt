@@ -1,6 +1,8 @@
 -- Why a command stops: its code, its word, and when it may come.
 use Rattle.std.specs.Prelude.{◌≡◌, ◌⊎◌, ℕ, ◌≤◌, List, Result, Ok, Err, IfErr, codes}
 use Rattle.hb_edge.specs.Causes.{Rose}
+use Rattle.hb_log.specs.declared.fault.LogFault.{LogFault}
+use Rattle.hb_log.specs.declared.fault.LogFault.TheVariants as log
 use Rattle.hb_script.specs.declared.fault.ScriptFault.{ScriptFault}
 use Rattle.hb_script.specs.declared.fault.ScriptFault.TheVariants.{Source as FromSource, NoMemory}
 use Rattle.hb_console.specs.declared.stop.Stop.{Stop}
@@ -19,6 +21,13 @@ code_of Memory = 7
 abbrev pub script_stop : ScriptFault → Stop
 script_stop FromSource = Source
 script_stop NoMemory = Memory
+
+-- what a log's fault is to a command: a log that an earlier fault closed isn't asked again
+abbrev pub log_stop : LogFault → Stop
+log_stop log.Fault = Disk
+log_stop (log.Damaged place) = Damaged
+log_stop log.Closed = Disk
+log_stop log.NoMemory = Memory
 
 -- 0 where the command came to its end
 abbrev pub status_of : Result (Unit {0}) Stop → ℕ

@@ -6,10 +6,8 @@ ghost use Rattle.hb_console.specs.Ends.{IsRun, Ends};
 
 use crate::Stop;
 use crate::opening::open;
-use crate::reply::Reply;
-use crate::run::{put_reply, run_orders};
+use crate::run::run_orders;
 use hb_edge::{Clock, Disk, Sink, Source};
-use hb_script::lines;
 use hb_types::Text;
 use std::alloc::Global;
 
@@ -25,22 +23,24 @@ pub struct Ended<D: Disk> {
     pub disks: Vec<D>,
 }
 
-/// Opens the disk, does the orders of the source, and prints how many lines there were.
-fn run_to_end<S: Source, O: Sink, D: Disk>(
+/// Opens the disk, does the orders of the source, and prints how many lines there were. The disk comes back in every case.
+fn run_over<S: Source, O: Sink, D: Disk>(
     alloc: Global,
     source: &mut S,
     sink: &mut O,
-    disk: &mut D,
+    disk: D,
     clock: &mut Clock,
-) -> Result<(), Stop>
-    ensures { Ends (status_of result)
-        (seen S.left S.faults O.held O.faults D.content D.left D.last D.faults source.old sink.old disk.old)
-        (seen S.left S.faults O.held O.faults D.content D.left D.last D.faults source.new sink.new disk.new) }
+) -> (Result<(), Stop>, D)
+    ensures { Ends (status_of result.0)
+        (seen S.left S.faults O.held O.shown O.last O.faults D.content D.left D.last D.faults source.old sink.old disk clock.old)
+        (seen S.left S.faults O.held O.shown O.last O.faults D.content D.left D.last D.faults source.new sink.new result.1 clock.new) }
 {
-    let mut table = open(alloc, disk, clock)?;
-    let count = run_orders(alloc, &mut table, source, sink, disk, clock)?;
-    let last = Reply::Line(lines(alloc, count)?);
-    put_reply(sink, clock, last)
+    let mut table = match open(alloc, disk, clock) {
+        Ok(table) => table,
+        Err((stop, disk)) => return (Err(stop), disk),
+    };
+    let ended = run_orders(alloc, &mut table, source, sink, clock);
+    (ended, table.into_disk())
 }
 
 /// The exit status of a run that ended so.
@@ -93,14 +93,16 @@ pub fn console_run<S: Source, O: Sink, D: Disk>(
     // What stands at each other status.
     ensures disks { length result.disks.items ≡ length disks.items }
     ensures ends { (was now : D) → result.status ≢ 1 → disks.items ≡ was ∷ [] → result.disks.items ≡ now ∷ [] → Ends result.status
-        (seen S.left S.faults O.held O.faults D.content D.left D.last D.faults source.old sink.old was)
-        (seen S.left S.faults O.held O.faults D.content D.left D.last D.faults source.new sink.new now) }
+        (seen S.left S.faults O.held O.shown O.last O.faults D.content D.left D.last D.faults source.old sink.old was clock.old)
+        (seen S.left S.faults O.held O.shown O.last O.faults D.content D.left D.last D.faults source.new sink.new now clock.new) }
 {
     let mut disks = disks;
     if !is_run(words) || disks.len() != 1 {
         return Ended { status: 1, disks };
     }
-    let ended = run_to_end(alloc, source, sink, &mut disks[0], clock);
+    let disk = disks.take_last();
+    let (ended, disk) = run_over(alloc, source, sink, disk, clock);
+    disks.push_reserved(disk);
     Ended {
         status: status(ended),
         disks,

@@ -2,16 +2,18 @@
 #![tactic(auto)]
 
 mod console;
-mod entry;
+mod laws;
 mod opening;
 mod orders;
+mod replay;
 mod reply;
 mod run;
 mod stop;
-mod store;
 mod table;
+mod votes;
 
 pub use console::{Ended, back_ends, console_run};
+pub use laws::log_comes_to_one;
 pub use stop::{Stop, status_word};
 
 #[cfg(test)]

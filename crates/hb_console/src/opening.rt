@@ -1,47 +1,38 @@
-// The opening: the disk is synced, and its bytes are read as a list of entries.
-ghost use Rattle.std.specs.Prelude.{◌≡◌, ◌≤◌, IfOk, IfErr, IsErrOf, Some};
-ghost use Rattle.hb_console.specs.Tables.{IsKept, Opens, MayNotOpen};
+// The opening: the disk is synced, and its log is started and gone over.
+ghost use Rattle.std.specs.Prelude.{◌≡◌, ◌≤◌, false, is_some, IfOk, IfErr, IfSome};
+ghost use Rattle.hb_console.specs.Openings.{Fails, Opens};
 
 use crate::Stop;
-use crate::entry::split_entry;
-use crate::store::sync_and_read;
-use crate::table::{Table, add_row, is_taken};
-use hb_edge::{Clock, Disk};
-use hb_types::Text;
+use crate::replay::replay_all;
+use crate::table::Table;
+use hb_edge::{Clock, Disk, Failed};
+use hb_log::Log;
 use std::alloc::Global;
-use std::collections::BTreeMap;
 
-/// The table of these bytes, if they are a list of entries with distinct keys.
-fn read_table(alloc: Global, bytes: &[u8]) -> Result<Table, Stop>
-    ensures table { IfOk result (Opens (Some bytes.now)) }
-    ensures stop { IfErr result (MayNotOpen (Some bytes.now) 0 0) }
+/// Opens the table of a disk, or gives the disk back.
+pub(crate) fn open<D: Disk>(
+    alloc: Global,
+    disk: D,
+    clock: &mut Clock,
+) -> Result<Table<D>, (Stop, D)>
+    ensures opens { IfOk result (λ table. IfSome (D.content disk) (Opens D.content D.left D.last (D.last disk) clock.old table clock.new)) }
+    ensures told { IfOk result (λ table. is_some (D.content table.log.disk) ≡ is_some (D.content disk)) }
+    ensures count { IfOk result (λ table. D.faults disk ≤ D.faults table.log.disk) }
+    ensures is_open { IfOk result (λ table. table.log.closed ≡ false) }
+    ensures clock { clock.old ≤ clock.new }
+    ensures fails { IfErr result (λ e. Fails D.content D.left D.last D.faults disk e.1 clock.old clock.new e.0) }
 {
-    let mut rows = BTreeMap::new(alloc);
-    let mut rest = bytes;
-    'entries: while !rest.is_empty() {
-        let Some((key, text, more)) = split_entry(rest) else {
-            return Err(Stop::Damaged);
-        };
-        if is_taken(&rows, key) {
-            return Err(Stop::Damaged);
-        }
-        add_row(&mut rows, key, Text::new(text.to_vec(alloc)?))?;
-        rest = more;
+    let mut disk = disk;
+    match disk.sync(clock) {
+        Ok(()) => {}
+        Err(Failed) => return Err((Stop::Disk, disk)),
     }
-    Ok(Table {
-        rows,
-        end: bytes.len() as u64,
-    })
-}
-
-/// Reads the disk as a table.
-pub(crate) fn open<D: Disk>(alloc: Global, disk: &mut D, clock: &mut Clock) -> Result<Table, Stop>
-    ensures table { IfOk result (Opens (D.content disk.old)) }
-    ensures stop { IfErr result (MayNotOpen (D.content disk.old) (D.faults disk.old) (D.faults disk.new)) }
-    ensures content { D.content disk.new ≡ D.content disk.old }
-    ensures kept { (IsErrOf result Stop.Disk → ⊥) → IsKept (D.content disk.new) (D.left disk.new) (D.last disk.new) }
-    ensures later { D.faults disk.old ≤ D.faults disk.new }
-{
-    let bytes = sync_and_read(alloc, disk, clock)?;
-    read_table(alloc, &bytes)
+    let log = match Log::start(alloc, disk, clock, 0) {
+        Ok(log) => log,
+        Err((fault, disk)) => return Err((Stop::from(fault), disk)),
+    };
+    match replay_all(alloc, log.items()) {
+        Ok(committed) => Ok(Table { log, committed }),
+        Err(stop) => Err((stop, log.into_disk())),
+    }
 }

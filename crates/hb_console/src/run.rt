@@ -1,5 +1,6 @@
-// The orders of a script, done one by one.
-ghost use Rattle.std.specs.Prelude.{◌≡◌, ◌+◌, ◌<◌, length, is_some, IfOk, IfErr, OnOk, OnErr, OnSome};
+// The orders of a script, done one by one, and the count of their lines.
+ghost use Rattle.std.specs.Prelude.{◌≡◌, ◌+◌, ◌<◌, length, max, ℕ, is_some, false, IfOk, IfErr, OnOk, OnErr, OnSome};
+ghost use Rattle.hb_edge.specs.Moments.{tick};
 ghost use Rattle.hb_edge.specs.Streams.{with_end, with_front, PutsPart};
 ghost use Rattle.hb_script.specs.Scripts.{NextOrder};
 ghost use Rattle.hb_console.specs.Outside.{seen};
@@ -12,7 +13,7 @@ use crate::orders::serve;
 use crate::reply::Reply;
 use crate::table::Table;
 use hb_edge::{Clock, Disk, Failed, Sink, Source};
-use hb_script::ScriptReader;
+use hb_script::{ScriptReader, lines};
 use hb_table::Order;
 use std::alloc::Global;
 
@@ -21,6 +22,9 @@ pub(crate) fn put_reply<O: Sink>(sink: &mut O, clock: &mut Clock, reply: Reply) 
     ensures all { OnOk result (O.held sink.new ≡ with_end (bytes_of reply) (O.held sink.old)) }
     ensures part { OnErr result (PutsPart (O.held sink.old) (O.held sink.new) (bytes_of reply)) }
     ensures told { is_some (O.held sink.new) ≡ is_some (O.held sink.old) }
+    ensures before { (m : ℕ) → m < clock.new → O.shown sink.new m ≡ O.shown sink.old m }
+    ensures clock { clock.new ≡ tick clock.old }
+    ensures last { O.last sink.new ≡ max (O.last sink.old) clock.new }
     ensures cause { StopsBy Stop.Sink (O.faults sink.old) (O.faults sink.new) result }
 {
     match sink.put(clock, reply.as_slice()) {
@@ -56,23 +60,24 @@ fn number_after(number: u64) -> Result<u64, Stop>
 /// Does the orders of the source to its end, and says how many there were.
 pub(crate) fn run_orders<S: Source, O: Sink, D: Disk>(
     alloc: Global,
-    table: &mut Table,
+    table: &mut Table<D>,
     source: &mut S,
     sink: &mut O,
-    disk: &mut D,
     clock: &mut Clock,
-) -> Result<u64, Stop>
-    ensures { Runs table.old
-        (seen S.left S.faults O.held O.faults D.content D.left D.last D.faults source.old sink.old disk.old)
-        (seen S.left S.faults O.held O.faults D.content D.left D.last D.faults source.new sink.new disk.new)
+) -> Result<(), Stop>
+    requires { table.old.log.closed ≡ false }
+    ensures { Runs D.content D.left D.last table.old
+        (seen S.left S.faults O.held O.shown O.last O.faults D.content D.left D.last D.faults source.old sink.old table.old.log.disk clock.old)
+        (seen S.left S.faults O.held O.shown O.last O.faults D.content D.left D.last D.faults source.new sink.new table.new.log.disk clock.new)
         result }
 {
     let mut reader = ScriptReader::new(alloc)?;
     let mut number: u64 = 0;
     'script: while let Some(order) = next_order(alloc, &mut reader, source)? {
         number = number_after(number)?;
-        let reply = serve(alloc, table, number, order, disk, clock)?;
+        let reply = serve(alloc, table, number, order, clock)?;
         put_reply(sink, clock, reply)?;
     }
-    Ok(number)
+    let last = Reply::Line(lines(alloc, number)?);
+    put_reply(sink, clock, last)
 }

@@ -4,6 +4,7 @@ ghost use Rattle.hb_console.specs.declared.stop.Stop.{Stop as AnyStop};
 ghost use Rattle.hb_console.specs.declared.stop.Stop.TheVariants.{Source as OfSource, Memory as OfMemory};
 ghost use Rattle.hb_console.specs.Stops.{code_of, word_of};
 
+use hb_log::LogFault;
 use hb_script::ScriptFault;
 use hb_types::NoMemory;
 use std::alloc::{AllocError, AllocFailed};
@@ -59,6 +60,20 @@ impl From<ScriptFault> for Stop {
         match fault {
             ScriptFault::Source => Stop::Source,
             ScriptFault::NoMemory => Stop::Memory,
+        }
+    }
+}
+
+impl From<LogFault> for Stop {
+    ghost use Rattle.hb_console.specs.Stops.{log_stop};
+
+    ghost from_gives = { λ fault stop. stop ≡ log_stop fault };
+
+    fn from(fault: LogFault) -> Self {
+        match fault {
+            LogFault::Fault | LogFault::Closed => Stop::Disk,
+            LogFault::Damaged { place: _ } => Stop::Damaged,
+            LogFault::NoMemory => Stop::Memory,
         }
     }
 }

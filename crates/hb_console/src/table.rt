@@ -1,21 +1,41 @@
-// The table in memory: its rows by key, and where the next entry goes on the disk.
-ghost use Rattle.std.specs.Prelude.{◌≡◌, ◌↔◌, ◌+◌, ◌≤◌, ◌^◌, IsTrue, IfOk, IfErr, OnOk, OnErr, true, false};
+// The table in memory: its committed rows by key, the greatest numbers of its log, and the log.
+ghost use Rattle.std.specs.Prelude.{◌≡◌, ◌+◌, ◌≤◌, ◌^◌, IfOk, IfErr, OnOk};
 ghost use Rattle.std.specs.Ordering.{int_cmp};
 ghost use Rattle.std.specs.BTreeMap.{insert_entry};
 ghost use Rattle.hb_table.specs.Table.{has_key};
 
 use crate::Stop;
+use hb_edge::Disk;
+use hb_log::Log;
 use hb_types::{NoMemory, Text};
 use std::alloc::Global;
 use std::collections::BTreeMap;
 
-const LAST_END: u64 = 1 << 62;
+/// The greatest transaction number, commit number and length of a log.
+const GREATEST: u64 = 1 << 62;
 
-/// The rows by key, and the end of the entries on the disk.
+/// The committed rows by key, the greatest transaction number and the greatest commit number.
 #[derive(Drop)]
-pub struct Table {
+pub struct Committed {
     pub rows: BTreeMap<i32, Text>,
-    pub end: u64,
+    pub tx: u64,
+    pub number: u64,
+}
+
+/// What a log has committed, and the log.
+#[derive(Drop)]
+pub struct Table<D: Disk> {
+    pub log: Log<D>,
+    pub committed: Committed,
+}
+
+impl<D: Disk> Table<D> {
+    pub(crate) fn into_disk(self) -> D
+        ensures { result ≡ self.log.disk }
+    {
+        let Table { log, committed: _ } = self;
+        log.into_disk()
+    }
 }
 
 /// Whether a row has the key.
@@ -34,13 +54,13 @@ pub(crate) fn add_row(rows: &mut BTreeMap<i32, Text>, key: i32, text: Text) -> R
     Ok(())
 }
 
-/// Where the entries end with so many bytes more. Past 2^62 there is no place.
-pub(crate) fn end_after(end: u64, more: usize) -> Result<u64, Stop>
-    ensures end { IfOk result (λ n. (n ≡ end + more) × (n ≤ 2 ^ 62)) }
+/// A number of the log, raised by so many. There is none past 2^62.
+pub(crate) fn raised(number: u64, by: usize) -> Result<u64, Stop>
+    ensures sum { IfOk result (λ n. (n ≡ number + by) × (n ≤ 2 ^ 62)) }
     ensures memory { IfErr result (λ stop. stop ≡ Stop.Memory) }
 {
-    match end.checked_add(more as u64) {
-        Some(n) if n <= LAST_END => Ok(n),
+    match number.checked_add(by as u64) {
+        Some(n) if n <= GREATEST => Ok(n),
         _ => Err(Stop::Memory),
     }
 }

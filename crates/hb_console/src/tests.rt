@@ -1,6 +1,6 @@
-// Whole runs over disks in memory: their texts, their disks, and each device call failing in turn.
+// Whole runs over disks in memory: their texts, their logs, each device call failing in turn, and damaged images.
 use crate::{Ended, console_run, status_word};
-use hb_edge::Clock;
+use hb_edge::{Clock, Disk, Failed};
 use hb_memdisk::{MemDisk, MemSink, MemSource};
 use hb_types::{Bytes, NoMemory, Text};
 use std::alloc::Global;
@@ -12,29 +12,46 @@ const SCRIPT: &[u8] =
 const TEXT: &[u8] =
     b"s1 INSERTED 1\ns1 COMMITTED 1\ns1 KEY TAKEN\ns1 INSERTED 1\ns1 COMMITTED 2\ns1 ROW -1,a\ns1 ROW 5,e\ns1 ROWS 2\nLINES 4\n";
 
-const ENTRIES: &[u8] = &[5, 0, 0, 0, 1, 0x65, 255, 255, 255, 255, 1, 0x61];
+const SCAN: &[u8] = b"s1: SELECT * FROM T";
+
+/// What a scan shows of the first accepted inserts of the script.
+const SCANNED: [&[u8]; 3] = [
+    b"s1 ROWS 0\nLINES 1\n",
+    b"s1 ROW 5,e\ns1 ROWS 1\nLINES 1\n",
+    b"s1 ROW -1,a\ns1 ROW 5,e\ns1 ROWS 2\nLINES 1\n",
+];
+
+/// A vote of 57 bytes and a commit of 22, for a text of one letter.
+const INSERTED: usize = 79;
+
+/// The disk's calls: 5 of an opening that makes the log, and 8 for each accepted insert.
+const CALLS: u64 = 21;
 
 /// What a run left: its status, its text and its disk.
 #[derive(Drop)]
 struct Left {
     status: u8,
     text: Vec<u8>,
-    disk: Vec<u8>,
+    disks: Vec<MemDisk>,
 }
 
-/// The calls of the source, the sink and the disk that fail.
+impl Left {
+    fn disk(&self) -> &[u8] {
+        match self.disks.first() {
+            Some(disk) => disk.bytes(),
+            None => b"".as_slice(),
+        }
+    }
+}
+
+/// The calls of the source and the sink that fail.
 #[derive(Clone, Copy)]
 struct Failing {
     source: u64,
     sink: u64,
-    disk: u64,
 }
 
-const NONE: Failing = Failing {
-    source: 0,
-    sink: 0,
-    disk: 0,
-};
+const NONE: Failing = Failing { source: 0, sink: 0 };
 
 fn words(alloc: Global, last: &[u8]) -> Result<Vec<Text>, NoMemory> {
     let mut words = Vec::new(alloc);
@@ -44,52 +61,80 @@ fn words(alloc: Global, last: &[u8]) -> Result<Vec<Text>, NoMemory> {
     Ok(words)
 }
 
-fn disk_of(alloc: Global, bytes: &[u8], failing: u64) -> Result<MemDisk, NoMemory> {
+/// A disk of which one call fails, and which a restart leaves as the pick says.
+fn disk_of(alloc: Global, bytes: &[u8], failing: u64, pick: u16) -> Result<Vec<MemDisk>, NoMemory> {
     let failing = [failing].to_vec(alloc)?;
-    Ok(MemDisk::new(
-        alloc,
-        Bytes::new(bytes.to_vec(alloc)?),
-        failing,
-        Vec::new(alloc),
-    ))
+    let picks = [pick].to_vec(alloc)?;
+    let mut disks = Vec::new(alloc);
+    disks.push(MemDisk::new(alloc, Bytes::new(bytes.to_vec(alloc)?), failing, picks))?;
+    Ok(disks)
 }
 
-/// A run of `run -b LAST` over one disk.
+/// A run of `run -b LAST` over these disks.
 fn run_words(
     alloc: Global,
     last: &[u8],
     script: &[u8],
-    disk: &[u8],
+    disks: Vec<MemDisk>,
     failing: Failing,
+    clock: &mut Clock,
 ) -> Result<Left, NoMemory> {
     let words = words(alloc, last)?;
     let script = Bytes::new(script.to_vec(alloc)?);
     let mut source = MemSource::new(script, 7, [failing.source].to_vec(alloc)?);
     let mut sink = MemSink::new(alloc, [failing.sink].to_vec(alloc)?)?;
-    let mut disks = Vec::new(alloc);
-    disks.push(disk_of(alloc, disk, failing.disk)?)?;
-    let mut clock = Clock::new();
-    let Ended { status, mut disks } = console_run(
+    let Ended { status, disks } = console_run(
         alloc,
         words.as_slice(),
         &mut source,
         &mut sink,
         disks,
-        &mut clock,
+        clock,
     );
-    let disk = match disks.pop() {
-        Some(disk) => disk.bytes().to_vec(alloc)?,
-        None => Vec::new(alloc),
-    };
     Ok(Left {
         status,
         text: sink.bytes().to_vec(alloc)?,
-        disk,
+        disks,
     })
 }
 
-fn run(alloc: Global, script: &[u8], disk: &[u8], failing: Failing) -> Result<Left, NoMemory> {
-    run_words(alloc, b"1", script, disk, failing)
+fn run(alloc: Global, script: &[u8], bytes: &[u8], failing: Failing) -> Result<Left, NoMemory> {
+    let mut clock = Clock::new();
+    let disks = disk_of(alloc, bytes, 0, 0)?;
+    run_words(alloc, b"1", script, disks, failing, &mut clock)
+}
+
+/// The script over an empty disk of which one call fails, and a scan after a restart with this pick.
+fn run_twice(alloc: Global, failing: u64, pick: u16) -> Result<(Left, Left), NoMemory> {
+    let mut clock = Clock::new();
+    let disks = disk_of(alloc, b"", failing, pick)?;
+    let first = run_words(alloc, b"1", SCRIPT, disks, NONE, &mut clock)?;
+    let Left {
+        status,
+        text,
+        mut disks,
+    } = first;
+    for disk in disks.iter_mut() {
+        let _ = disk.restart(&mut clock);
+    }
+    let second = run_words(alloc, b"1", SCAN, disks, NONE, &mut clock)?;
+    let first = Left {
+        status,
+        text,
+        disks: Vec::new(alloc),
+    };
+    Ok((first, second))
+}
+
+/// How many inserts are shown committed.
+fn shown(text: &[u8]) -> usize {
+    if text.len() >= 71 {
+        2
+    } else if text.len() >= 29 {
+        1
+    } else {
+        0
+    }
 }
 
 #[test]
@@ -97,16 +142,17 @@ fn three_inserts_and_a_scan(rt: HostRuntime) -> Result<(), Fail> {
     let left = run(rt.alloc(), SCRIPT, b"", NONE)?;
     assert_eq!(rt; left.status, 0);
     assert_eq!(rt; left.text.as_slice(), TEXT);
-    assert_eq!(rt; left.disk.as_slice(), ENTRIES);
+    assert_eq!(rt; left.disk().len(), 2 * INSERTED + 1);
     Ok(())
 }
 
 #[test]
 fn a_second_run_goes_on_from_the_first(rt: HostRuntime) -> Result<(), Fail> {
+    let first = run(rt.alloc(), SCRIPT, b"", NONE)?;
     let left = run(
         rt.alloc(),
         b"s1: INSERT INTO T VALUES (-1, 'b')\ns1: INSERT INTO T VALUES (0, '')\r\ns1: SELECT * FROM T",
-        ENTRIES,
+        first.disk(),
         NONE,
     )?;
     assert_eq!(rt; left.status, 0);
@@ -114,7 +160,7 @@ fn a_second_run_goes_on_from_the_first(rt: HostRuntime) -> Result<(), Fail> {
         left.text.as_slice(),
         b"s1 KEY TAKEN\ns1 INSERTED 1\ns1 COMMITTED 3\ns1 ROW -1,a\ns1 ROW 0,\ns1 ROW 5,e\ns1 ROWS 3\nLINES 3\n".as_slice()
     );
-    assert_eq!(rt; left.disk.len(), 17);
+    assert_eq!(rt; left.disk().len(), 3 * INSERTED);
     Ok(())
 }
 
@@ -135,86 +181,115 @@ fn an_empty_script_and_a_line_that_is_not_built(rt: HostRuntime) -> Result<(), F
 #[test]
 fn other_words_and_two_disks_are_usage(rt: HostRuntime) -> Result<(), Fail> {
     let alloc = rt.alloc();
-    let left = run_words(alloc, b"2", SCRIPT, ENTRIES, NONE)?;
+    let mut clock = Clock::new();
+    let disks = disk_of(alloc, b"as it was", 0, 0)?;
+    let left = run_words(alloc, b"2", SCRIPT, disks, NONE, &mut clock)?;
     assert_eq!(rt; left.status, 1);
     assert_eq!(rt; left.text.len(), 0);
-    assert_eq!(rt; left.disk.as_slice(), ENTRIES);
-    let words = words(alloc, b"1")?;
-    let mut source = MemSource::new(Bytes::new(Vec::new(alloc)), 1, Vec::new(alloc));
-    let mut sink = MemSink::new(alloc, Vec::new(alloc))?;
-    let mut disks = Vec::new(alloc);
-    disks.push(disk_of(alloc, b"", 0)?)?;
-    disks.push(disk_of(alloc, b"", 0)?)?;
-    let mut clock = Clock::new();
-    let Ended { status, disks } = console_run(
-        alloc,
-        words.as_slice(),
-        &mut source,
-        &mut sink,
-        disks,
-        &mut clock,
-    );
-    assert_eq!(rt; status, 1);
-    assert_eq!(rt; disks.len(), 2);
+    assert_eq!(rt; left.disk(), b"as it was".as_slice());
+    let mut disks = disk_of(alloc, b"", 0, 0)?;
+    for disk in disk_of(alloc, b"", 0, 0)? {
+        disks.push(disk)?;
+    }
+    let left = run_words(alloc, b"1", SCRIPT, disks, NONE, &mut clock)?;
+    assert_eq!(rt; left.status, 1);
+    assert_eq!(rt; left.disks.len(), 2);
     assert_eq!(rt; status_word(1), "usage");
     Ok(())
 }
 
 #[test]
-fn a_disk_that_is_no_list_of_entries_is_damaged(rt: HostRuntime) -> Result<(), Fail> {
-    for image in [
-        [5, 0, 0, 0].as_slice(),
-        [5, 0, 0, 0, 2, 0x65].as_slice(),
-        [5, 0, 0, 0, 0, 5, 0, 0, 0, 0].as_slice(),
-    ] {
-        let left = run(rt.alloc(), SCRIPT, image, NONE)?;
-        assert_eq!(rt; left.status, 6);
-        assert_eq!(rt; left.text.len(), 0);
-        assert_eq!(rt; left.disk.as_slice(), image);
-    }
-    Ok(())
-}
-
-#[test]
 fn a_source_that_fails_ends_with_3(rt: HostRuntime) -> Result<(), Fail> {
-    let failing = Failing { source: 6, ..NONE };
-    let left = run(rt.alloc(), SCRIPT, b"", failing)?;
+    let left = run(rt.alloc(), SCRIPT, b"", Failing { source: 6, ..NONE })?;
     assert_eq!(rt; left.status, 3);
     assert_eq!(rt;
         left.text.as_slice(),
         b"s1 INSERTED 1\ns1 COMMITTED 1\n".as_slice()
     );
-    assert_eq!(rt; left.disk.len(), 6);
+    assert_eq!(rt; left.disk().len(), INSERTED + 1);
     Ok(())
 }
 
 #[test]
 fn a_sink_that_fails_ends_with_4(rt: HostRuntime) -> Result<(), Fail> {
-    for (sink, text, disk) in [
-        (1, 0, 6),
-        (2, 29, 6),
-        (3, 42, 12),
-        (4, 71, 12),
-        (5, 104, 12),
-    ] {
+    for (sink, text, inserts) in [(1, 0, 1), (2, 29, 1), (3, 42, 2), (4, 71, 2), (5, 104, 2)] {
         let left = run(rt.alloc(), SCRIPT, b"", Failing { sink, ..NONE })?;
         assert_eq!(rt; left.status, 4);
         assert_eq!(rt; left.text.len(), text);
         assert!(rt; TEXT.starts_with(left.text.as_slice()));
-        assert_eq!(rt; left.disk.len(), disk);
+        assert_eq!(rt; left.disk().len(), inserts * INSERTED + 1);
     }
     Ok(())
 }
 
 #[test]
-fn a_disk_that_fails_ends_with_5(rt: HostRuntime) -> Result<(), Fail> {
-    for (disk, text) in [(1, 0), (2, 0), (3, 0), (4, 0), (5, 0), (6, 42), (7, 42)] {
-        let left = run(rt.alloc(), SCRIPT, b"", Failing { disk, ..NONE })?;
-        assert_eq!(rt; left.status, 5);
-        assert_eq!(rt; left.text.len(), text);
-        assert!(rt; TEXT.starts_with(left.text.as_slice()));
+fn the_last_sync_of_the_second_insert_fails(rt: HostRuntime) -> Result<(), Fail> {
+    for (pick, rows) in [(0, 1), (1, 2)] {
+        let (first, second) = run_twice(rt.alloc(), CALLS, pick)?;
+        assert_eq!(rt; first.status, 5);
+        assert_eq!(rt; first.text.len(), 42);
+        assert_eq!(rt; second.status, 0);
+        assert_eq!(rt; second.text.as_slice(), SCANNED[rows]);
     }
-    let left = run(rt.alloc(), SCRIPT, b"", Failing { disk: 8, ..NONE })?;
-    assert_eq!(rt; left.status, 0);
+    Ok(())
+}
+
+#[test]
+fn no_shown_row_is_lost_at_any_call(rt: HostRuntime) -> Result<(), Fail> {
+    for failing in 1..CALLS + 1 {
+        for pick in [0, 1, 2, 257] {
+            let (first, second) = run_twice(rt.alloc(), failing, pick)?;
+            assert_eq!(rt; first.status, 5);
+            assert!(rt; TEXT.starts_with(first.text.as_slice()));
+            assert_eq!(rt; second.status, 0);
+            let kept = SCANNED
+                .iter()
+                .position(|text| *text == second.text.as_slice());
+            assert!(rt; kept >= Some(shown(first.text.as_slice())));
+        }
+    }
+    let (first, second) = run_twice(rt.alloc(), CALLS + 1, 0)?;
+    assert_eq!(rt; first.status, 0);
+    assert_eq!(rt; second.text.as_slice(), SCANNED[2]);
+    Ok(())
+}
+
+#[test]
+fn an_image_that_is_no_log_is_damaged(rt: HostRuntime) -> Result<(), Fail> {
+    let mut next: u32 = 1;
+    for count in 6..60 {
+        let mut image = vec![in rt.alloc(); 1u8]?;
+        for _ in 0..count {
+            next = next.wrapping_mul(1664525).wrapping_add(1013904223);
+            image.push((next >> 24) as u8)?;
+        }
+        let left = run(rt.alloc(), SCRIPT, image.as_slice(), NONE)?;
+        assert_eq!(rt; left.status, 6);
+        assert_eq!(rt; left.text.len(), 0);
+        assert_eq!(rt; left.disk(), image.as_slice());
+    }
+    Ok(())
+}
+
+#[test]
+fn a_log_of_one_changed_byte_opens_or_is_damaged(rt: HostRuntime) -> Result<(), Fail> {
+    let good = run(rt.alloc(), SCRIPT, b"", NONE)?;
+    let good = good.disk();
+    for i in 0..good.len() {
+        let mut image = good.to_vec(rt.alloc())?;
+        image[i] ^= 0x21;
+        let left = run(rt.alloc(), SCAN, image.as_slice(), NONE)?;
+        assert!(rt; left.status == 0 || left.status == 6);
+        if left.status == 6 {
+            assert_eq!(rt; left.text.len(), 0);
+            assert_eq!(rt; left.disk(), image.as_slice());
+        }
+    }
+    // the transaction of the first commit, and its number
+    for i in [INSERTED - 16, INSERTED - 8] {
+        let mut image = good.to_vec(rt.alloc())?;
+        image[i] ^= 0x21;
+        assert_eq!(rt; run(rt.alloc(), SCAN, image.as_slice(), NONE)?.status, 6);
+    }
     Ok(())
 }

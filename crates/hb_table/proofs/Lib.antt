@@ -3,5 +3,6 @@ pub mod SplitLemmas
 pub mod NumeralLemmas
 pub mod OrderLemmas
 pub mod LineLemmas
-pub mod EntryBytes
 pub mod RowOrder
+pub mod KeptLemmas
+mod LogExamples

@@ -11,8 +11,7 @@ use Rattle.std.proofs.lemmas.Int.{ints}
 use Rattle.std.proofs.lemmas.List.Elements.{All-from_recursion}
 use Rattle.std.proofs.lemmas.List.Kept.{AllPairs-cons}
 use Rattle.std.proofs.lemmas.List.Sorted.{IsPermutation-refl, IsPermutation-cons, IsPermutation-trans, IsPermutation-swap, list_any-IsPermutation}
-use Rattle.hb_table.specs.Table.{Entry, with_row, rows_of, has_key}
-use Rattle.hb_table.specs.Entries.{AreEntries}
+use Rattle.hb_table.specs.Table.{Entry, with_row, rows_of, has_key, AreDistinct}
 
 -- the first two elements the other way round
 swap_first : {X : Type 0} (a b : X) (xs : List X) → IsPermutation (a ∷ b ∷ xs) (b ∷ a ∷ xs)
@@ -93,17 +92,17 @@ with_row_ascends row (first ∷ rows) none ascends =
     by true is apart rest = (above_more first.0 row rows (less_true first.0 row.0 is) ascends.0, rest)
     by false is apart rest = let lt = less_false first.0 row.0 is apart in ((lt, above_lower row.0 first.0 rows lt ascends.0), ascends)
 
-ascend : (entries : List Entry) → AreEntries entries → Ascends (rows_of entries)
+ascend : (entries : List Entry) → AreDistinct entries → Ascends (rows_of entries)
 unfolding Ascends
 ascend [] are = tt
-ascend (entry ∷ entries) are = with_row_ascends entry (rows_of entries) (has_key-rows_of entry.0 entries ∙ are.2) (ascend entries are.3)
+ascend (entry ∷ entries) are = with_row_ascends entry (rows_of entries) (has_key-rows_of entry.0 entries ∙ are.0) (ascend entries are.1)
 
 all_pairs : (rows : List Entry) → Ascends rows → AllPairs (λ first second. first.0 <ℤ second.0) rows
 unfolding Ascends
 all_pairs [] ascends = λ i j d lt le. absurd (omega arith)
 all_pairs (row ∷ rows) ascends = AllPairs-cons (λ first second. first.0 <ℤ second.0) row rows (All-from_recursion (λ other. row.0 <ℤ other.0) rows ascends.0) (all_pairs rows ascends.1)
 
-pub rows_ascend : (entries : List Entry) → AreEntries entries → AllPairs (λ first second. first.0 <ℤ second.0) (rows_of entries)
+pub rows_ascend : (entries : List Entry) → AreDistinct entries → AllPairs (λ first second. first.0 <ℤ second.0) (rows_of entries)
 rows_ascend entries are = all_pairs (rows_of entries) (ascend entries are)
 
 -- where the first row stays first, and where it doesn't

@@ -1,5 +1,5 @@
 -- The table: entries in the order in which they came, rows in the order of their keys, and the replies to orders.
-use Rattle.std.specs.Prelude.{◌≡◌, ℕ, ◌+◌, List, [], ◌∷◌, ◌++◌, length, if◌then◌else◌, Bool, ℤ, pos, negsuc, codes, refl}
+use Rattle.std.specs.Prelude.{◌≡◌, ℕ, ◌+◌, List, [], ◌∷◌, ◌++◌, length, if◌then◌else◌, Bool, false, ℤ, pos, negsuc, codes, refl}
 use Rattle.std.specs.Fmt.{decimal, signed_decimal}
 use Rattle.std.specs.List.{flat_map, list_any}
 use Rattle.std.specs.Ordering.{int_cmp, int_eq, is_lt}
@@ -22,6 +22,11 @@ rows_of (entry ∷ entries) = with_row entry (rows_of entries)
 
 abbrev pub has_key : ℤ → List Entry → Bool
 has_key key entries = list_any (λ entry. int_eq key entry.0) entries
+
+-- no two entries have one key
+abbrev pub AreDistinct : List Entry → Type 0
+AreDistinct [] = Unit {0}
+AreDistinct (entry ∷ entries) = (has_key entry.0 entries ≡ false) × AreDistinct entries
 
 -- the entries after an order: a new key's entry comes last
 unfoldable pub entries_with : List Entry → Order → List Entry

@@ -7,4 +7,4 @@ mod table_laws;
 
 pub use line_laws::{first_line, last_line, no_feed, one_order, some_order};
 pub use order::Order;
-pub use table_laws::{one_list, rows_are_entries, rows_ascend};
+pub use table_laws::{records_come_to_one, rows_are_entries, rows_ascend};

@@ -1,30 +1,80 @@
-use Rattle.std.proofs.Common.{◌≡◌, ◌<◌, ℕ, ◌+◌, List, length, ◌∙◌, ap, subst, arith, rules, SFits, w32}
-use Rattle.std.specs.Option.{option_map}
+use Rattle.std.proofs.Common.{◌≡◌, ◌<◌, ◌+◌, ℕ, ℤ, List, [], ◌∷◌, ◌++◌, length, false, inl, ◌∙◌, sym, ap, refl, arith, rules, SFits, w32}
 use Rattle.std.specs.Ordering.{int_cmp}
 use Rattle.std.specs.BTreeMap.{insert_entry}
 use Rattle.std.proofs.lemmas.Int.{to_z-of_z}
-use Rattle.hb_edge.specs.Images.{written}
+use Rattle.hb_edge.specs.Images.{Image}
 use Rattle.hb_table.specs.Table.{Entry, inserted_text}
-use Rattle.hb_table.specs.Entries.{entry_bytes}
-use Rattle.hb_console.proofs.MoreEntries.{keeps_more, keeps_count, stores_more}
+use Rattle.hb_table.proofs.KeptLemmas.{kept_count}
+use Rattle.hb_console.specs.Inserts.{Inserts, after_vote, after_commit}
+use Rattle.hb_console.specs.Tables.{HasEither, items_of}
+use Rattle.hb_console.proofs.Settled.{err_any, stores_kept, leaves_kept}
+use Rattle.hb_console.proofs.Inserting.{rows_more, either_first, either_twice}
 use Rattle.hb_console.proofs.orders.insert_new.Goals as goal
 
-pub returns-clause-done : goal.returns-clause-done
-returns-clause-done g c = λ entries keeps stores absent.
-    let entry : Entry = (c.args.key, c.args.text) in
+pub returns-in_err-insertion-clause-stopped : goal.returns-in_err-insertion-clause-stopped
+returns-in_err-insertion-clause-stopped g c = λ kept ready.
+    err_any c.from_residual.result _ (λ stop other. stores_kept g.D.Disk.content g.D.Disk.left g.D.Disk.last kept c.args.table.now.log c.args.clock.now (g.met.D.Disk.stands c.args.table.now.log.disk) ready.log)
+
+pub returns-in_err-insertion-clause-leaves : goal.returns-in_err-insertion-clause-leaves
+returns-in_err-insertion-clause-leaves g c = λ kept ready absent.
+    leaves_kept g.D.Disk.content g.D.Disk.left g.D.Disk.last kept c.args.table.now.log c.args.clock.now (λ image. HasEither kept.entries (kept.entries ++ (c.args.key, c.args.text) ∷ []) image) (g.met.D.Disk.stands c.args.table.now.log.disk) ready.log (λ image has. inl has)
+
+pub returns-in_err-fit-clause-stopped : goal.returns-in_err-fit-clause-stopped
+returns-in_err-fit-clause-stopped g c = λ kept ready.
+    err_any c.from_residual-in_err-fit.result _ (λ stop other. stores_kept g.D.Disk.content g.D.Disk.left g.D.Disk.last kept c.args.table.now.log c.args.clock.now (g.met.D.Disk.stands c.args.table.now.log.disk) ready.log)
+
+pub returns-in_err-fit-clause-leaves : goal.returns-in_err-fit-clause-leaves
+returns-in_err-fit-clause-leaves g c = λ kept ready absent.
+    leaves_kept g.D.Disk.content g.D.Disk.left g.D.Disk.last kept c.args.table.now.log c.args.clock.now (λ image. HasEither kept.entries (kept.entries ++ (c.args.key, c.args.text) ∷ []) image) (g.met.D.Disk.stands c.args.table.now.log.disk) ready.log (λ image has. inl has)
+
+pub returns-in_err-add_row-clause-stopped : goal.returns-in_err-add_row-clause-stopped
+returns-in_err-add_row-clause-stopped g c = λ kept ready.
+    err_any c.from_residual-in_err-add_row.result _ (λ stop other. stores_kept g.D.Disk.content g.D.Disk.left g.D.Disk.last kept c.args.table.now.log c.args.clock.now (g.met.D.Disk.stands c.args.table.now.log.disk) ready.log)
+
+pub returns-in_err-add_row-clause-leaves : goal.returns-in_err-add_row-clause-leaves
+returns-in_err-add_row-clause-leaves g c = λ kept ready absent.
+    leaves_kept g.D.Disk.content g.D.Disk.left g.D.Disk.last kept c.args.table.now.log c.args.clock.now (λ image. HasEither kept.entries (kept.entries ++ (c.args.key, c.args.text) ∷ []) image) (g.met.D.Disk.stands c.args.table.now.log.disk) ready.log (λ image has. inl has)
+
+pub returns-in_err-append-clause-leaves : goal.returns-in_err-append-clause-leaves
+returns-in_err-append-clause-leaves g c = λ kept ready absent.
     let fits : SFits w32 c.args.key = c.ranges.key in
-    let text : c.as_slice.result.now ≡ c.args.text = search rules in
-    let spelled = simp to_z-of_z at c.in_ok-entry.ensures.bytes in
-    let bytes : c.in_ok-entry.entry.items ≡ entry_bytes entry = spelled.0 ∙ ap (λ (l : List ℕ). entry_bytes (c.args.key, l)) text in
-    let short : length c.args.text < 256 = subst (λ (l : List ℕ). length l < 256) text spelled.1 in
-    let added : c.add_row.new.rows.entries ≡ insert_entry int_cmp c.args.table.now.rows.entries c.args.key c.args.text = simp to_z-of_z at c.in_ok-add_row.ensures in
-    let long : length c.in_ok-entry.entry.items ≡ length (entry_bytes entry) = ap length bytes in
-    let end : c.in_ok-end.end ≡ c.args.table.now.end + length (entry_bytes entry) = omega (arith, c.in_ok-end.ensures.end.0, c.len.ensures, long) in
-    let put : c.deref.result.now ≡ entry_bytes entry = c.deref.ensures.value ∙ bytes in
-    let wrote : g.D.Disk.content c.write_and_sync.new.disk ≡ option_map (written c.args.table.now.end (entry_bytes entry)) (g.D.Disk.content c.args.disk.now) = subst (λ (l : List ℕ). g.D.Disk.content c.write_and_sync.new.disk ≡ option_map (written c.args.table.now.end l) (g.D.Disk.content c.args.disk.now)) put c.in_ok-write_and_sync.ensures.written in
-    let count : c.len-2.result + 1 ≡ length entries + 1 = omega (arith, c.len-2.ensures.len, keeps_count entries c.args.table.now keeps) in
+    let entry : Entry = (c.args.key, c.args.text) in
+    let inserts : Inserts kept entry c.in_ok-insertion.insertion = (simp to_z-of_z at c.in_ok-insertion.ensures.inserts) kept ready.committed absent in
+    either_first c.args.clock.now _ _ kept.entries (kept.entries ++ entry ∷ []) (c.append.ensures.leaves kept (after_vote kept entry) ready.log inserts.vote)
+
+pub returns-in_err-append-2-clause-leaves : goal.returns-in_err-append-2-clause-leaves
+returns-in_err-append-2-clause-leaves g c = λ kept ready absent.
+    let fits : SFits w32 c.args.key = c.ranges.key in
+    let entry : Entry = (c.args.key, c.args.text) in
+    let inserts : Inserts kept entry c.in_ok-insertion.insertion = (simp to_z-of_z at c.in_ok-insertion.ensures.inserts) kept ready.committed absent in
+    let first = c.append.ensures.leaves kept (after_vote kept entry) ready.log inserts.vote in
+    let mid = c.in_ok-append.ensures.done kept (after_vote kept entry) ready.log inserts.vote in
+    let second = c.append-2.ensures.leaves (after_vote kept entry) (after_commit kept entry) mid inserts.commit in
+    either_twice c.args.clock.now c.append.new.clock _ _ _ kept.entries (kept.entries ++ entry ∷ []) c.append.ensures.clock first second
+
+pub returns-clause-leaves : goal.returns-clause-leaves
+returns-clause-leaves g c = λ kept ready absent.
+    let fits : SFits w32 c.args.key = c.ranges.key in
+    let entry : Entry = (c.args.key, c.args.text) in
+    let inserts : Inserts kept entry c.in_ok-insertion.insertion = (simp to_z-of_z at c.in_ok-insertion.ensures.inserts) kept ready.committed absent in
+    let first = c.append.ensures.leaves kept (after_vote kept entry) ready.log inserts.vote in
+    let mid = c.in_ok-append.ensures.done kept (after_vote kept entry) ready.log inserts.vote in
+    let second = c.append-2.ensures.leaves (after_vote kept entry) (after_commit kept entry) mid inserts.commit in
+    either_twice c.args.clock.now c.append.new.clock _ _ _ kept.entries (kept.entries ++ entry ∷ []) c.append.ensures.clock first second
+
+pub returns-clause-done : goal.returns-clause-done
+returns-clause-done g c = λ kept ready absent.
+    let fits : SFits w32 c.args.key = c.ranges.key in
+    let entry : Entry = (c.args.key, c.args.text) in
+    let inserts : Inserts kept entry c.in_ok-insertion.insertion = (simp to_z-of_z at c.in_ok-insertion.ensures.inserts) kept ready.committed absent in
+    let added : c.add_row.new.rows.entries ≡ insert_entry int_cmp c.args.table.now.committed.rows.entries c.args.key c.args.text = simp to_z-of_z at c.in_ok-add_row.ensures in
+    let mid = c.in_ok-append.ensures.done kept (after_vote kept entry) ready.log inserts.vote in
     record {
-      text = c.in_ok-reply.ensures ∙ ap inserted_text count;
-      keeps = keeps_more entries entry c.args.table.now (record { rows = c.add_row.new.rows; end = c.in_ok-end.end }) keeps fits short absent added end;
-      stores = stores_more entries entry c.args.table.now.end (g.D.Disk.content c.args.disk.now) (g.D.Disk.content c.write_and_sync.new.disk) (g.D.Disk.left c.args.disk.now) (g.D.Disk.left c.write_and_sync.new.disk) (g.D.Disk.last c.args.disk.now) (g.D.Disk.last c.write_and_sync.new.disk) stores keeps.end wrote c.in_ok-write_and_sync.ensures.kept;
+      text = inserts.reply ∙ ap (λ (n : ℕ). inserted_text (n + 1)) (kept_count (items_of ready.log.placed) kept ready.log.keeps);
+      kept = after_commit kept entry;
+      ready = record {
+        log = c.in_ok-append-2.ensures.done (after_vote kept entry) (after_commit kept entry) mid inserts.commit;
+        committed = record { rows = rows_more kept.entries entry c.args.table.now.committed.rows.entries c.add_row.new.rows.entries ready.committed.rows absent added; tx = inserts.tx; number = inserts.number };
+      };
+      entries_are = refl;
     }

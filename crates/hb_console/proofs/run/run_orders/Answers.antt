@@ -1,76 +1,85 @@
-use Rattle.std.proofs.Common.{arith, ◌∙◌, refl}
+use Rattle.std.proofs.Common.{◌≡◌, ◌+◌, ℕ, List, [], length, arith, ◌∙◌, sym, ap, refl}
 use Rattle.std.proofs.lemmas.Result.{err_from_is_err_and}
-use Rattle.hb_table.specs.Run.{entries_after}
+use Rattle.hb_edge.specs.Streams.{with_front}
 use Rattle.hb_console.specs.declared.stop.Stop.TheVariants.{Source, Sink, Disk, Memory}
-use Rattle.hb_console.proofs.Running.{by_device, stopped_between, stopped_first, stopped_within, runs_ended, runs_start, runs_on, rose_since, goes_nowhere}
+use Rattle.hb_console.specs.Outside.{seen}
+use Rattle.hb_console.proofs.Running.{by_device, cause_last, done_last, goes_nowhere, halts_between, halts_served, halts_within, rose_since, runs_none, runs_on, runs_start, runs_stopped, stopped_last, survives_end}
 use Rattle.hb_console.proofs.run.run_orders.Goals as goal
 
 pub returns-in_err-reader : goal.returns-in_err-reader
 returns-in_err-reader g c =
     let p = err_from_is_err_and c.from_residual.result c.from_residual.ensures.1 in
-    stopped_first _ _ _ Memory (goes_nowhere _) tt refl (λ start stores. stores) p.0 p.2 _ p.1
+    runs_stopped _ _ _ _ _ _ Memory (goes_nowhere _) tt
+    (λ since start reached. halts_between _ _ _ since start _ _ _ 0 c.args.table.now _ _ _ _ _ _ Memory (g.met.D.Disk.stands c.args.table.now.log.disk) (runs_none _ _ _ since start _ c.args.table.now _ _ _ _ reached)) p.0 p.2 _ p.1
 
 pub returns-in_err-order : goal.returns-in_err-order
 returns-in_err-order g c =
     let p = err_from_is_err_and c.from_residual-in_err-order.result c.from_residual-in_err-order.ensures.1 in
     let on = c.script.invariant.goes_on in
-    let cause = c.in_err-order.ensures.cause in
-    stopped_between _ _ _ _ _ _ _ _ _ _
-    (record { source = omega (arith, on.source, cause.later); sink = on.sink; disk = on.disk; output = on.output; content = on.content })
-    (by_device _ _ Source _ _ _ cause.cause (λ rose. rose_since _ _ _ on.source rose))
-    c.script.invariant.running (λ start running other. running.stores) p.0 p.2 _ p.1
+    runs_stopped _ _ _ _ _ _ _
+    (record { source = omega (arith, on.source, c.in_err-order.ensures.cause.later); sink = on.sink; disk = on.disk; moment = on.moment; output = on.output; content = on.content })
+    (by_device _ _ Source _ _ _ c.in_err-order.ensures.cause.cause (λ rose. rose_since _ _ _ on.source rose))
+    (λ since start reached. halts_between _ _ _ since start _ _ _ _ c.script.table _ _ _ _ _ _ _ (g.met.D.Disk.stands c.script.table.log.disk) (c.script.invariant.running since start reached)) p.0 (p.2) _ p.1
 
 pub returns-in_err-number : goal.returns-in_err-number
 returns-in_err-number g c =
     let p = err_from_is_err_and c.from_residual-in_err-number.result c.from_residual-in_err-number.ensures.1 in
     let on = c.script.invariant.goes_on in
-    stopped_between _ _ _ _ _ _ _ _ _ Memory
-    (record { source = omega (arith, on.source, c.next_order.ensures.cause.later); sink = on.sink; disk = on.disk; output = on.output; content = on.content })
+    runs_stopped _ _ _ _ _ _ Memory
+    (record { source = omega (arith, on.source, c.next_order.ensures.cause.later); sink = on.sink; disk = on.disk; moment = on.moment; output = on.output; content = on.content })
     tt
-    c.script.invariant.running (λ start running other. running.stores) p.0 (p.2 ∙ c.in_err-number.ensures.memory) _ p.1
+    (λ since start reached. halts_between _ _ _ since start _ _ _ _ c.script.table _ _ _ _ _ _ Memory (g.met.D.Disk.stands c.script.table.log.disk) (c.script.invariant.running since start reached)) p.0 (p.2 ∙ c.in_err-number.ensures.memory) _ p.1
 
 pub returns-in_err-reply : goal.returns-in_err-reply
 returns-in_err-reply g c =
     let p = err_from_is_err_and c.from_residual-in_err-reply.result c.from_residual-in_err-reply.ensures.1 in
     let on = c.script.invariant.goes_on in
-    let cause = c.in_err-reply.ensures.cause in
-    stopped_between _ _ _ _ _ _ _ _ _ _
-    (record { source = omega (arith, on.source, c.next_order.ensures.cause.later); sink = on.sink; disk = omega (arith, on.disk, cause.later); output = on.output; content = c.serve.ensures.told ∙ on.content })
-    (by_device _ _ Disk _ _ _ cause.cause (λ rose. rose_since _ _ _ on.disk rose))
-    c.script.invariant.running (λ start running. c.in_err-reply.ensures.stopped (entries_after start running.done) running.stores) p.0 p.2 _ p.1
+    runs_stopped _ _ _ _ _ _ _
+    (record { source = omega (arith, on.source, c.next_order.ensures.cause.later); sink = on.sink; disk = omega (arith, on.disk, c.serve.ensures.cause.later); moment = omega (arith, on.moment, c.serve.ensures.clock); output = on.output; content = c.serve.ensures.told ∙ on.content })
+    (by_device _ _ Disk _ _ _ c.in_err-reply.ensures.cause.cause (λ rose. rose_since _ _ _ on.disk rose))
+    (λ since start reached. halts_served _ _ _ since start _ _ _ _ _ c.script.table c.serve.new.table _ _ _ _ (c.script.invariant.running since start reached) _ (rw c.in-Some.is at c.in_ok-order.ensures.next) (g.met.O.Sink.stands c.script.sink) c.serve.ensures.leaves _ c.serve.new.clock _ _ c.in_err-reply.ensures.stopped) p.0 (p.2) _ p.1
 
 pub returns-in_err-put_reply : goal.returns-in_err-put_reply
 returns-in_err-put_reply g c =
     let p = err_from_is_err_and c.from_residual-in_err-put_reply.result c.from_residual-in_err-put_reply.ensures.1 in
     let on = c.script.invariant.goes_on in
-    let cause = c.in_err-put_reply.ensures.cause in
-    stopped_within _ _ _ _ _ _ _ _ _ _ _ _ _ _ _ _
-    (record { source = omega (arith, on.source, c.next_order.ensures.cause.later); sink = omega (arith, on.sink, cause.later); disk = omega (arith, on.disk, c.serve.ensures.cause.later); output = c.put_reply.ensures.told ∙ on.output; content = c.serve.ensures.told ∙ on.content })
-    (by_device _ _ Sink _ _ _ cause.cause (λ rose. rose_since _ _ _ on.sink rose))
-    c.script.invariant.running (rw c.in-Some.is at c.in_ok-order.ensures.next) c.in_ok-number.ensures.next
-    (λ start running. c.in_ok-reply.ensures.done (entries_after start running.done) running.keeps running.stores)
-    c.in_err-put_reply.ensures.part p.0 p.2 _ p.1
+    runs_stopped _ _ _ _ _ _ _
+    (record { source = omega (arith, on.source, c.next_order.ensures.cause.later); sink = omega (arith, on.sink, c.put_reply.ensures.cause.later); disk = omega (arith, on.disk, c.serve.ensures.cause.later); moment = omega (arith, on.moment, c.serve.ensures.clock, c.put_reply.ensures.clock); output = c.put_reply.ensures.told ∙ on.output; content = c.serve.ensures.told ∙ on.content })
+    (by_device _ _ Sink _ _ _ c.in_err-put_reply.ensures.cause.cause (λ rose. rose_since _ _ _ on.sink rose))
+    (λ since start reached. halts_within _ _ _ since start _ _ _ _ _ c.script.table c.serve.new.table _ _ _ _ (c.script.invariant.running since start reached) _ (rw c.in-Some.is at c.in_ok-order.ensures.next) (g.met.O.Sink.stands c.script.sink) c.serve.ensures.leaves _ c.serve.new.clock c.in_ok-number.ensures.next c.serve.ensures.clock (g.met.D.Disk.stands c.serve.new.table.log.disk) _ c.in_ok-reply.ensures.done _ _ c.put_reply.new.clock _ (record { before = c.put_reply.ensures.before; clock = c.put_reply.ensures.clock; last_put = c.put_reply.ensures.last; now = g.met.O.Sink.stands c.put_reply.new.sink }) _ _ _ _ refl c.in_err-put_reply.ensures.part) p.0 (p.2) _ p.1
+
+pub returns-in_err-lines : goal.returns-in_err-lines
+returns-in_err-lines g c =
+    let p = err_from_is_err_and c.from_residual-in_err-lines.result c.from_residual-in_err-lines.ensures.1 in
+    let on = c.script.invariant.goes_on in
+    runs_stopped _ _ _ _ _ _ Memory
+    (record { source = omega (arith, on.source, c.next_order.ensures.cause.later); sink = on.sink; disk = on.disk; moment = on.moment; output = on.output; content = on.content })
+    tt
+    (λ since start reached. halts_between _ _ _ since start _ _ _ _ c.script.table _ _ _ _ _ _ Memory (g.met.D.Disk.stands c.script.table.log.disk) (c.script.invariant.running since start reached)) p.0 (p.2) _ p.1
 
 pub script-init : goal.script-init
 script-init g c = record {
   goes_on = goes_nowhere _;
-  running = λ start keeps stores. runs_start start _ _ _ _ _ _ _ c.in_ok-reader.ensures keeps stores;
+  is_open = c.requires;
+  running = λ since start reached. runs_start _ _ _ since start _ _ c.args.table.now _ _ _ _ c.in_ok-reader.ensures reached;
 }
 
 pub script-preserved : goal.script-preserved
 script-preserved g c =
     let on = c.script.invariant.goes_on in
     record {
-      goes_on = record { source = omega (arith, on.source, c.next_order.ensures.cause.later); sink = omega (arith, on.sink, c.put_reply.ensures.cause.later); disk = omega (arith, on.disk, c.serve.ensures.cause.later); output = c.put_reply.ensures.told ∙ on.output; content = c.serve.ensures.told ∙ on.content };
-      running = λ start keeps stores.
-          let running = c.script.invariant.running start keeps stores in
-          runs_on start _ _ _ _ _ _ _ _ _ _ _ _ _ _ _ running _ (rw c.in-Some.is at c.in_ok-order.ensures.next) c.in_ok-number.ensures.next _
-          (c.in_ok-reply.ensures.done (entries_after start running.done) running.keeps running.stores) _ _ refl c.in_ok-put_reply.ensures.all;
+      goes_on = record { source = omega (arith, on.source, c.next_order.ensures.cause.later); sink = omega (arith, on.sink, c.put_reply.ensures.cause.later); disk = omega (arith, on.disk, c.serve.ensures.cause.later); moment = omega (arith, on.moment, c.serve.ensures.clock, c.put_reply.ensures.clock); output = c.put_reply.ensures.told ∙ on.output; content = c.serve.ensures.told ∙ on.content };
+      is_open = c.in_ok-reply.ensures.is_open;
+      running = λ since start reached. runs_on _ _ _ since start _ _ _ _ _ c.script.table c.serve.new.table _ _ _ _ (c.script.invariant.running since start reached) _ (rw c.in-Some.is at c.in_ok-order.ensures.next) (g.met.O.Sink.stands c.script.sink) c.serve.ensures.leaves _ c.serve.new.clock c.in_ok-number.ensures.next c.serve.ensures.clock (g.met.D.Disk.stands c.serve.new.table.log.disk) _ c.in_ok-reply.ensures.done _ _ c.put_reply.new.clock _ (record { before = c.put_reply.ensures.before; clock = c.put_reply.ensures.clock; last_put = c.put_reply.ensures.last; now = g.met.O.Sink.stands c.put_reply.new.sink }) _ refl c.in_ok-put_reply.ensures.all;
     }
 
 pub returns : goal.returns
 returns g c =
     let on = c.script.invariant.goes_on in
-    runs_ended _ _ _ _ _ _ _
-    (record { source = omega (arith, on.source, c.next_order.ensures.cause.later); sink = on.sink; disk = on.disk; output = on.output; content = on.content })
-    c.script.invariant.running (rw c.in_default.is at c.in_ok-order.ensures.next)
+    record {
+      goes_on = record { source = omega (arith, on.source, c.next_order.ensures.cause.later); sink = omega (arith, on.sink, c.put_reply-2.ensures.cause.later); disk = on.disk; moment = omega (arith, on.moment, c.put_reply-2.ensures.clock); output = c.put_reply-2.ensures.told ∙ on.output; content = on.content };
+      cause = cause_last _ _ _ _ c.put_reply-2.result c.put_reply-2.ensures.cause (λ rose. rose_since _ _ _ on.sink rose);
+      done = λ since start reached. done_last _ _ _ since start _ _ _ _ c.script.table _ _ _ _ _ (c.script.invariant.running since start reached) (rw c.in_default.is at c.in_ok-order.ensures.next) (g.met.D.Disk.stands c.script.table.log.disk) _ _ c.put_reply-2.new.clock _ (record { before = c.put_reply-2.ensures.before; clock = c.put_reply-2.ensures.clock; last_put = c.put_reply-2.ensures.last; now = g.met.O.Sink.stands c.put_reply-2.new.sink }) _ _ c.in_ok-lines.ensures c.put_reply-2.result c.put_reply-2.ensures.all;
+      stopped = λ since start reached. stopped_last _ _ _ since start _ _ _ _ c.script.table _ _ _ _ _ (c.script.invariant.running since start reached) (rw c.in_default.is at c.in_ok-order.ensures.next) (g.met.D.Disk.stands c.script.table.log.disk) _ _ c.put_reply-2.new.clock _ (record { before = c.put_reply-2.ensures.before; clock = c.put_reply-2.ensures.clock; last_put = c.put_reply-2.ensures.last; now = g.met.O.Sink.stands c.put_reply-2.new.sink }) _ _ c.in_ok-lines.ensures c.put_reply-2.result c.put_reply-2.ensures.part;
+      survives = λ since start reached. survives_end _ _ _ since start (seen g.S.Source.left g.S.Source.faults g.O.Sink.held g.O.Sink.shown g.O.Sink.last g.O.Sink.faults g.D.Disk.content g.D.Disk.left g.D.Disk.last g.D.Disk.faults c.args.source.now c.args.sink.now c.args.table.now.log.disk c.args.clock.now) _ _ _ c.script.table _ _ _ _ _ (c.script.invariant.running since start reached) (rw c.in_default.is at c.in_ok-order.ensures.next) (g.met.D.Disk.stands c.script.table.log.disk) _ _ c.put_reply-2.new.clock _ (record { before = c.put_reply-2.ensures.before; clock = c.put_reply-2.ensures.clock; last_put = c.put_reply-2.ensures.last; now = g.met.O.Sink.stands c.put_reply-2.new.sink }) (record { source = 0; sink = 0; disk = 0 }) _ c.put_reply-2.result c.put_reply-2.ensures.all c.put_reply-2.ensures.part;
+    }
