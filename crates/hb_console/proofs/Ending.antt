@@ -7,6 +7,8 @@ use Rattle.hb_edge.specs.Causes.{Rose}
 use Rattle.hb_edge.specs.Images.{Image}
 use Rattle.hb_edge.specs.Moments.{tick}
 use Rattle.hb_edge.specs.Streams.{with_end}
+use Rattle.hb_codec.specs.Reading.{OneForm}
+use Rattle.hb_codec.specs.Spellings.{IsBodyOf}
 use Rattle.hb_table.specs.declared.order.Order.{Order}
 use Rattle.hb_table.specs.Log.{Kept, IsTableLog}
 use Rattle.hb_table.specs.Table.{Entry}
@@ -224,7 +226,7 @@ module _ {D : Type 0} (content : D → Option Image) (left : D → ℕ → Image
         (record { source = omega arith; sink = omega arith; disk = fails.count; moment = clock; output = refl; content = fails.told }) (why_not stop refl fails.why) stops survives
 
   -- a run over an opened table
-  module _ (table : Table D) (now : ℕ) (opens : IfSome (content old) (Opens content left last (last old) was table now)) (told : is_some (content table.log.disk) ≡ is_some (content old)) (count : faults old ≤ faults table.log.disk) (clock : was ≤ now)
+  module _ (one_form : OneForm IsBodyOf) (table : Table D) (now : ℕ) (opens : IfSome (content old) (Opens content left last (last old) was table now)) (told : is_some (content table.log.disk) ≡ is_some (content old)) (count : faults old ≤ faults table.log.disk) (clock : was ≤ now)
       (after : Outside) (result : Result (Unit {0}) Stop) (runs : Runs content left last table (with_disk table.log.disk now) after result) where
     has_table : HasTable (content old)
     has_table = from_some (content old) _ _ (λ read o. (o.kept, o.is_log)) opens
@@ -253,7 +255,7 @@ module _ {D : Type 0} (content : D → Option Image) (left : D → ℕ → Image
     from_opened : (P : List Entry → List Order → Type 0) → ((start : List Entry) → Reached content left last (tick was) output start [] table output shown put_at now → ForOrders input (P start)) → ForRun (with_disk old was) P
     from_opened P each = λ in_time. told_all (content old) _ (λ read is kept log.
         let o = at_some (content old) _ read is opens in
-        let one : o.kept ≡ kept = one_kept read o.kept kept o.is_log log in
+        let one : o.kept ≡ kept = one_kept one_form read o.kept kept o.is_log log in
         subst (λ (k : Kept). ForOrders input (P k.entries)) one (each o.kept.entries (reached in_time read o)))
 
     why_stopped : (stop : Stop) → MayStop (record { source = source_faults; sink = sink_faults; disk = faults table.log.disk }) after.faults stop → Why (with_disk old was) after stop

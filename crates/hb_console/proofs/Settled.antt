@@ -6,6 +6,8 @@ use Rattle.std.proofs.lemmas.Bool.Decides.{nat_tests}
 use Rattle.hb_edge.specs.Images.{Image}
 use Rattle.hb_edge.specs.Runs.{started, weaker}
 use Rattle.hb_edge.specs.Stops.{Leaves, Only}
+use Rattle.hb_codec.specs.Reading.{OneForm}
+use Rattle.hb_codec.specs.Spellings.{IsBodyOf}
 use Rattle.hb_types.specs.declared.change.LogItem.{LogItem}
 use Rattle.hb_types.specs.declared.change.LogItem.TheVariants.{Prepare, Commit, Abort, Decision, Ids}
 use Rattle.hb_types.specs.declared.change.Placed.{Placed}
@@ -20,9 +22,9 @@ use Rattle.hb_table.proofs.KeptLemmas.{keeps_one, keeps-push, kept_distinct}
 use Rattle.hb_console.specs.Inserts.{IsNext}
 use Rattle.hb_console.specs.Tables.{HasEntries, HasEither, Stores, Follows, ComesTo, items_of}
 
-pub one_kept : (image : List ℕ) (a b : Kept) → IsTableLog image a → IsTableLog image b → a ≡ b
-one_kept image a b la lb =
-    let placed : la.placed ≡ lb.placed = one_reading (readable image) 0 la.placed lb.placed la.records lb.records in
+pub one_kept : OneForm IsBodyOf → (image : List ℕ) (a b : Kept) → IsTableLog image a → IsTableLog image b → a ≡ b
+one_kept one image a b la lb =
+    let placed : la.placed ≡ lb.placed = one_reading one (readable image) 0 la.placed lb.placed la.records lb.records in
     keeps_one (items_of lb.placed) a b (subst (λ (ps : List Placed). Keeps nothing_kept (items_of ps) a) placed la.keeps) lb.keeps
 
 pub log_distinct : (image : List ℕ) (kept : Kept) → IsTableLog image kept → AreDistinct kept.entries

@@ -7,6 +7,8 @@ use Rattle.hb_edge.specs.Images.{Image}
 use Rattle.hb_edge.specs.Moments.{tick}
 use Rattle.hb_edge.specs.Causes.{Rose}
 use Rattle.hb_edge.specs.Stops.{Leaves}
+use Rattle.hb_codec.specs.Reading.{OneForm}
+use Rattle.hb_codec.specs.Spellings.{IsBodyOf}
 use Rattle.hb_types.specs.declared.change.Placed.{Placed}
 use Rattle.hb_types.specs.Logs.{Records, readable}
 use Rattle.hb_log.specs.declared.fault.LogFault.{LogFault}
@@ -26,15 +28,15 @@ use Rattle.hb_console.specs.Tables.{ComesTo, HasEntries, IsNoTable, Stores, item
 use Rattle.hb_console.proofs.Settled.{has_kept, one_kept, short_log, readable_long, stores_kept}
 
 -- where the disk reads as a log, what is left has the same entries
-pub same_entries : (read image : Image) (kept : Kept) → IsTableLog read kept → IsSameOrShort read image → HasEntries image kept.entries
-same_entries read image kept log (inl same) = subst (λ (i : Image). HasEntries i kept.entries) (sym same) (has_kept read kept log)
-same_entries read image kept log (inr short) =
-    let nothing : nothing_kept ≡ kept = one_kept read nothing_kept kept (short_log read short.0) log in
+pub same_entries : OneForm IsBodyOf → (read image : Image) (kept : Kept) → IsTableLog read kept → IsSameOrShort read image → HasEntries image kept.entries
+same_entries one read image kept log (inl same) = subst (λ (i : Image). HasEntries i kept.entries) (sym same) (has_kept read kept log)
+same_entries one read image kept log (inr short) =
+    let nothing : nothing_kept ≡ kept = one_kept one read nothing_kept kept (short_log read short.0) log in
     subst (λ (k : Kept). HasEntries image k.entries) nothing (has_kept image nothing_kept (short_log image short.1))
 
 -- a log that is damaged is no log of the table
-pub broken : (read : Image) (at : ℕ) → 7 ≤ length read → Breaks read 0 at → IsNoTable read
-broken read at long breaks kept log = never_both (readable read) 0 at log.placed log.records (subst (λ (l : List ℕ). Breaks l 0 at) (sym (readable_long read long)) breaks)
+pub broken : OneForm IsBodyOf → (read : Image) (at : ℕ) → 7 ≤ length read → Breaks read 0 at → IsNoTable read
+broken one read at long breaks kept log = never_both one (readable read) 0 at log.placed log.records (subst (λ (l : List ℕ). Breaks l 0 at) (sym (readable_long read long)) breaks)
 
 -- for what is told
 pub told_all : (content : Option Image) (P : Image → Type 0) → ((read : Image) → content ≡ Some read → P read) → IfSome content P
@@ -51,7 +53,7 @@ long_same : (read image : Image) → 7 ≤ length read → IsSameOrShort read im
 long_same read image long (inl same) = same
 long_same read image long (inr short) = absurd (omega (arith, long, short.0))
 
-module _ {D : Type 0} (content : D → Option Image) (left : D → ℕ → Image → Type 0) (last faults : D → ℕ) (old synced new : D) (before mid now : ℕ)
+module _ {D : Type 0} (content : D → Option Image) (left : D → ℕ → Image → Type 0) (last faults : D → ℕ) (one : OneForm IsBodyOf) (old synced new : D) (before mid now : ℕ)
     (content_is : content synced ≡ content old) (ticks : mid ≡ tick before) (last_is : last synced ≡ max (last old) mid) (synced_count : faults old ≤ faults synced)
     (stands : (m : ℕ) (image : Image) → last new ≤ m → left new m image → left new (last new) image) (stands_on : (m : ℕ) (image : Image) → last new ≤ m → left new (last new) image → left new m image)
     (leaves : (read : Image) → content synced ≡ Some read → last synced ≤ mid → Leaves mid (left synced) (left new) (λ m image. IsSameOrShort read image))
@@ -70,7 +72,7 @@ module _ {D : Type 0} (content : D → Option Image) (left : D → ℕ → Image
   since was read is m image le now_left = (leaves read (told_old read is) (in_time was)).each m image (omega (arith, le, ticks)) now_left
 
   stays : last old ≤ before → Stays content left old new before
-  stays was = told_all (content old) _ (λ read is kept log m image le now_left. same_entries read image kept log (since was read is m image le now_left))
+  stays was = told_all (content old) _ (λ read is kept log m image le now_left. same_entries one read image kept log (since was read is m image le now_left))
 
   -- and a long one is what it read
   long_since : last old ≤ before → (read : Image) → content old ≡ Some read → 7 ≤ length read → (m : ℕ) (image : Image) → last new ≤ m → left new m image → image ≡ read
@@ -84,7 +86,7 @@ module _ {D : Type 0} (content : D → Option Image) (left : D → ℕ → Image
       (rose : f ≡ fault.Fault → Rose (faults synced) (faults new)) (not_closed : f ≡ fault.Closed → ⊥) where
     why : (g : LogFault) → f ≡ g → MayNotOpen (content old) (faults old) (faults new) (log_stop g)
     why fault.Fault is = let r : Rose (faults synced) (faults new) = rose is in omega (arith, r, synced_count)
-    why (fault.Damaged place) is = told_all (content old) IsNoTable (λ read told_is. let d = damaged place is read (told_old read told_is) in broken read place d.0 d.1)
+    why (fault.Damaged place) is = told_all (content old) IsNoTable (λ read told_is. let d = damaged place is read (told_old read told_is) in broken one read place d.0 d.1)
     why fault.Closed is = absurd (not_closed is)
     why fault.NoMemory is = tt
 
@@ -125,7 +127,7 @@ module _ {D : Type 0} (content : D → Option Image) (left : D → ℕ → Image
       (stored : (kept : Kept) (read : Image) → content synced ≡ Some read → last synced ≤ mid → Keeps nothing_kept (items_of items) kept → Stores kept.entries (content new) (left new) (last new)) where
     keeps_of : (read : Image) → content old ≡ Some read → (kept : Kept) → IsTableLog read kept → Keeps nothing_kept (items_of items) kept
     keeps_of read is kept log =
-        let placed : log.placed ≡ items = one_reading (readable read) 0 log.placed items log.records (records read (told_old read is)) in
+        let placed : log.placed ≡ items = one_reading one (readable read) 0 log.placed items log.records (records read (told_old read is)) in
         subst (λ (ps : List Placed). Keeps nothing_kept (items_of ps) kept) placed log.keeps
 
     -- a short log has no record that is refused

@@ -7,6 +7,7 @@ ghost use Rattle.hb_console.specs.Ends.{IsRun, Ends};
 use crate::Stop;
 use crate::opening::open;
 use crate::run::run_orders;
+use hb_codec::records_have_one_form;
 use hb_edge::{Clock, Disk, Sink, Source};
 use hb_types::Text;
 use std::alloc::Global;
@@ -35,6 +36,7 @@ fn run_over<S: Source, O: Sink, D: Disk>(
         (seen S.left S.faults O.held O.shown O.last O.faults D.content D.left D.last D.faults source.old sink.old disk clock.old)
         (seen S.left S.faults O.held O.shown O.last O.faults D.content D.left D.last D.faults source.new sink.new result.1 clock.new) }
 {
+    records_have_one_form();
     let mut table = match open(alloc, disk, clock) {
         Ok(table) => table,
         Err((stop, disk)) => return (Err(stop), disk),

@@ -5,6 +5,7 @@ ghost use Rattle.hb_console.specs.Openings.{Fails, Opens};
 use crate::Stop;
 use crate::replay::replay_all;
 use crate::table::Table;
+use hb_codec::records_have_one_form;
 use hb_edge::{Clock, Disk, Failed};
 use hb_log::Log;
 use std::alloc::Global;
@@ -22,6 +23,7 @@ pub(crate) fn open<D: Disk>(
     ensures clock { clock.old ≤ clock.new }
     ensures fails { IfErr result (λ e. Fails D.content D.left D.last D.faults disk e.1 clock.old clock.new e.0) }
 {
+    records_have_one_form();
     let mut disk = disk;
     match disk.sync(clock) {
         Ok(()) => {}

@@ -10,7 +10,7 @@ use Rattle.hb_console.proofs.opening.open.Goals as goal
 pub returns-in-Err-start-clause-fails : goal.returns-in-Err-start-clause-fails
 returns-in-Err-start-clause-fails g c =
     let e = c.in-Err-start.ensures in
-    fails_start g.D.Disk.content g.D.Disk.left g.D.Disk.last g.D.Disk.faults c.args.disk c.sync.new.self c.in-Err-start.disk c.args.clock.now c.sync.new.clock c.start.new.clock
+    fails_start g.D.Disk.content g.D.Disk.left g.D.Disk.last g.D.Disk.faults c.records_have_one_form.ensures.one_form c.args.disk c.sync.new.self c.in-Err-start.disk c.args.clock.now c.sync.new.clock c.start.new.clock
     c.sync.ensures.content c.sync.ensures.clock c.sync.ensures.last c.sync.ensures.cause.later (g.met.D.Disk.stands c.in-Err-start.disk) (g.met.D.Disk.stands_on c.in-Err-start.disk)
     e.stop_err e.told_err e.count_err c.in-Err-start.fault e.content_err e.short e.damaged e.fault e.not_closed c.from.result c.from.ensures
 
@@ -29,7 +29,7 @@ returns-in-Ok-replay_all-clause-opens g c = told_all (g.D.Disk.content c.args.di
         log = record { placed = c.in-Ok-start.log.items.items; settled = e.settled read told (time was) (inl refl); keeps = keeps; in_time = e.in_time (time was) };
         committed = found.2;
       };
-      stays = λ was m image le left. same_entries read image found.0 log ((e.stop read told (time was)).each m image (omega (arith, le, c.sync.ensures.clock)) left);
+      stays = λ was m image le left. same_entries c.records_have_one_form.ensures.one_form read image found.0 log ((e.stop read told (time was)).each m image (omega (arith, le, c.sync.ensures.clock)) left);
     })
 
 pub returns-in-Err-replay_all-clause-fails : goal.returns-in-Err-replay_all-clause-fails
@@ -39,7 +39,7 @@ returns-in-Err-replay_all-clause-fails g c =
     let disk = c.in-Ok-start.log.disk in
     let refuses : Refuses (Keeps nothing_kept (items_of c.in-Ok-start.log.items.items)) c.in-Err-replay_all.stop = subst (λ (l : List Placed). Refuses (Keeps nothing_kept (items_of l)) c.in-Err-replay_all.stop) c.items.ensures c.in-Err-replay_all.ensures.stop in
     rw c.into_disk.ensures
-    (fails_replay g.D.Disk.content g.D.Disk.left g.D.Disk.last g.D.Disk.faults c.args.disk c.sync.new.self disk c.args.clock.now c.sync.new.clock c.start.new.clock
+    (fails_replay g.D.Disk.content g.D.Disk.left g.D.Disk.last g.D.Disk.faults c.records_have_one_form.ensures.one_form c.args.disk c.sync.new.self disk c.args.clock.now c.sync.new.clock c.start.new.clock
     c.sync.ensures.content c.sync.ensures.clock c.sync.ensures.last c.sync.ensures.cause.later (g.met.D.Disk.stands disk) (g.met.D.Disk.stands_on disk)
     e.stop e.told e.count items e.items e.content
     (λ kept read told time keeps. stores_kept g.D.Disk.content g.D.Disk.left g.D.Disk.last kept c.in-Ok-start.log c.start.new.clock (g.met.D.Disk.stands disk) (record { placed = items; settled = e.settled read told time (inl refl); keeps = keeps; in_time = e.in_time time }))
