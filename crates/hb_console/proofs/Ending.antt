@@ -23,7 +23,8 @@ use Rattle.hb_console.specs.Runs.{ForOrders, Finishes, StopsAt, Survives, Surviv
 use Rattle.hb_console.specs.Stops.{code_of, status_of}
 use Rattle.hb_console.specs.Tables.{HasEntries, IsNoTable, Stores}
 use Rattle.hb_console.proofs.Replying.{with_end_nothing, has_shown}
-use Rattle.hb_console.proofs.Running.{for_asked, asked_start, rose_since}
+use Rattle.hb_console.proofs.Behind.{for_asked, asked_start}
+use Rattle.hb_console.proofs.Halting.{rose_since}
 use Rattle.hb_console.proofs.Settled.{one_kept}
 use Rattle.hb_console.proofs.Starting.{told_all}
 

@@ -16,6 +16,5 @@ pub use console::{Ended, back_ends, console_run};
 pub use laws::log_comes_to_one;
 pub use stop::{Stop, status_word};
 
-
 #[cfg(test)]
 mod tests;

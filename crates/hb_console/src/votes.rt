@@ -11,7 +11,10 @@ use sqlite_items::Items;
 use std::alloc::Global;
 
 /// The area and the table of the one table.
-const SPACE: Space = Space { area: 257, table: 1 };
+const SPACE: Space = Space {
+    area: 257,
+    table: 1,
+};
 
 fn place_of(key: i32) -> Place
     ensures { result ≡ place_in key }

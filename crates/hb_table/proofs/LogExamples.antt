@@ -10,8 +10,13 @@ keeps-one : Keeps nothing_kept (prepare_of 1 0 (pos 5, codes "e") ∷ commit_of 
 keeps-one = (
   record { tx = 1; number = 0; voted = Some (pos 5, codes "e"); entries = [] },
   inl (record { entry = (pos 5, codes "e"); is_entry = record { key = fits_signed_from_abs w32 (pos 5) (lit< tt); text = lit< tt }; later = lit< tt; item_is = refl; new_is = refl }),
-  (record { tx = 1; number = 1; voted = None; entries = (pos 5, codes "e") ∷ [] },
-  inr (record { entry = (pos 5, codes "e"); was_voted = refl; is_new = refl; item_is = refl; new_is = refl }),
-  (record { tx = 3; number = 1; voted = Some (pos 6, codes "f"); entries = (pos 5, codes "e") ∷ [] },
-  inl (record { entry = (pos 6, codes "f"); is_entry = record { key = fits_signed_from_abs w32 (pos 6) (lit< tt); text = lit< tt }; later = lit< tt; item_is = refl; new_is = refl }),
-  refl)))
+  (
+    record { tx = 1; number = 1; voted = None; entries = (pos 5, codes "e") ∷ [] },
+    inr (record { entry = (pos 5, codes "e"); was_voted = refl; is_new = refl; item_is = refl; new_is = refl }),
+    (
+      record { tx = 3; number = 1; voted = Some (pos 6, codes "f"); entries = (pos 5, codes "e") ∷ [] },
+      inl (record { entry = (pos 6, codes "f"); is_entry = record { key = fits_signed_from_abs w32 (pos 6) (lit< tt); text = lit< tt }; later = lit< tt; item_is = refl; new_is = refl }),
+      refl,
+    ),
+  ),
+)

@@ -9,17 +9,23 @@ use Rattle.hb_console.proofs.VoteRows.{values_of, have_row, two_values, first_fi
 use Rattle.hb_console.proofs.votes.values_of.Goals as goal
 
 pub returns-in-Err-NotARecord-clause-stop : goal.returns-in-Err-NotARecord-clause-stop
-returns-in-Err-NotARecord-clause-stop c = inr (refl, λ entry is row_is.
-    let rows : c.args.row.now ≡ row_bytes (values_of entry) = cc in
-    let misspells = c.in-Err-NotARecord.ensures.not_a_row c.in-Err-NotARecord.field-0-0 (ap (λ (e : CodecFault). Err e) c.in-Err-NotARecord.field-0-is) in
-    misspells.none (values_of entry) (record { values_fit = have_row entry is; spelled = rows }))
+returns-in-Err-NotARecord-clause-stop c = inr (
+  refl,
+  λ entry is row_is.
+      let rows : c.args.row.now ≡ row_bytes (values_of entry) = cc in
+      let misspells = c.in-Err-NotARecord.ensures.not_a_row c.in-Err-NotARecord.field-0-0 (ap (λ (e : CodecFault). Err e) c.in-Err-NotARecord.field-0-is) in
+      misspells.none (values_of entry) (record { values_fit = have_row entry is; spelled = rows }),
+)
 
 pub returns-in_default-clause-stop : goal.returns-in_default-clause-stop
-returns-in_default-clause-stop c = inr (refl, λ entry is row_is.
-    let rows : c.args.row.now ≡ row_bytes (values_of entry) = cc in
-    let row = c.in-Ok.ensures.row in
-    let values : c.in-Ok.values ≡ values_of entry = two_values c.in-Ok.values row.values_fit entry is (sym row.spelled ∙ rows) in
-    c.in_default.ensures.none entry.0 entry.1 (c.as_slice.ensures ∙ values))
+returns-in_default-clause-stop c = inr (
+  refl,
+  λ entry is row_is.
+      let rows : c.args.row.now ≡ row_bytes (values_of entry) = cc in
+      let row = c.in-Ok.ensures.row in
+      let values : c.in-Ok.values ≡ values_of entry = two_values c.in-Ok.values row.values_fit entry is (sym row.spelled ∙ rows) in
+      c.in_default.ensures.none entry.0 entry.1 (c.as_slice.ensures ∙ values),
+)
 
 pub returns-clause-stop : goal.returns-clause-stop
 returns-clause-stop c =
