@@ -1,33 +1,20 @@
 -- What was asked so far, and what is left behind after each order and each put.
-use Rattle.std.proofs.Common.{◌≡◌, ◌≢◌, ◌⊎◌, inl, inr, ⊎_elim, ℕ, ◌+◌, ◌<◌, ◌≤◌, List, [], ◌∷◌, ◌++◌, length, take, refl, sym, ◌∙◌, ap, subst, arith, append_assoc, length-append, true, false}
-use Rattle.std.specs.Prelude.{Some, None, IfSome, is_some, max, Result, Ok, Err, IfOk, IfErr, OnOk, OnErr}
+use Rattle.std.proofs.Common.{◌≡◌, ⊎_elim, ℕ, ◌+◌, ◌<◌, ◌≤◌, List, [], ◌∷◌, ◌++◌, length, refl, sym, ◌∙◌, ap, subst, arith, append_assoc, true, false}
+use Rattle.std.specs.Prelude.{Some, None, IfSome, is_some}
 use Rattle.std.specs.declared.option.Option.{Option}
 use Rattle.std.proofs.lemmas.Bool.{cases_lt}
-use Rattle.std.proofs.lemmas.List.{append-nil, nil_from_length}
-use Rattle.hb_edge.specs.Causes.{Rose}
+use Rattle.std.proofs.lemmas.List.{append-nil}
 use Rattle.hb_edge.specs.Images.{Image}
-use Rattle.hb_edge.specs.Moments.{tick}
 use Rattle.hb_edge.specs.Stops.{Leaves}
-use Rattle.hb_edge.specs.Streams.{with_end, with_front, PutsPart}
+use Rattle.hb_edge.specs.Streams.{with_end, with_front}
 use Rattle.hb_table.specs.declared.order.Order.{Order}
-use Rattle.hb_table.specs.Lines.{lines_of}
-use Rattle.hb_table.specs.Log.{Kept}
-use Rattle.hb_table.specs.Orders.{AskAll}
 use Rattle.hb_table.specs.Table.{Entry, entries_with, reply_to}
-use Rattle.hb_table.specs.Run.{entries_after, replies, run_text, lines_text, IsFront, HasShown}
-use Rattle.hb_script.specs.Scripts.{NextOrder, FirstAsks}
-use Rattle.hb_console.specs.declared.stop.Stop.{Stop}
-use Rattle.hb_console.specs.declared.stop.Stop.TheVariants.{Sink, Disk, Memory}
-use Rattle.hb_console.specs.declared.table.Table.{Table}
-use Rattle.hb_console.specs.declared.reply.Reply.{Reply}
-use Rattle.hb_console.specs.Outside.{Outside, Faults, GoesOn, MayStop}
-use Rattle.hb_console.specs.Replies.{bytes_of}
-use Rattle.hb_console.specs.Stops.{StopsBy}
-use Rattle.hb_console.specs.Tables.{HasEntries, HasEither, IsReady, Answers, Stores}
-use Rattle.hb_console.specs.Runs.{ForOrders, Finishes, StopsAt, Survives, SurviveSince, IsBehind, BehindSince, Reached, Runs}
-use Rattle.hb_console.proofs.Replying.{with_end_twice, with_end_nothing, entries_after-append, replies-push, replies_front, front_trans, front_part, has_shown, has_shown-all}
-use Rattle.hb_console.proofs.Asking.{Asked, asked_none, asked_more, asked_first, asks_nothing}
-use Rattle.hb_console.proofs.Settled.{stores_kept, stays_kept}
+use Rattle.hb_table.specs.Run.{entries_after, replies, IsFront, HasShown}
+use Rattle.hb_script.specs.Scripts.{NextOrder}
+use Rattle.hb_console.specs.Tables.{HasEntries, HasEither}
+use Rattle.hb_console.specs.Runs.{ForOrders, Survives, IsBehind, BehindSince}
+use Rattle.hb_console.proofs.Replying.{entries_after-append, replies-push, has_shown}
+use Rattle.hb_console.proofs.Asking.{Asked, asked_none, asked_more, asked_first}
 
 pub with_front_nothing : (told : Option (List ℕ)) → with_front [] told ≡ told
 with_front_nothing None = refl

@@ -1,34 +1,26 @@
 -- The end of a run: the source came to its end, and the count of lines is put, or a part of it.
-use Rattle.std.proofs.Common.{◌≡◌, ◌≢◌, ◌⊎◌, inl, inr, ⊎_elim, ℕ, ◌+◌, ◌<◌, ◌≤◌, List, [], ◌∷◌, ◌++◌, length, take, refl, sym, ◌∙◌, ap, subst, arith, append_assoc, length-append, true, false}
-use Rattle.std.specs.Prelude.{Some, None, IfSome, is_some, max, Result, Ok, Err, IfOk, IfErr, OnOk, OnErr}
+use Rattle.std.proofs.Common.{◌≡◌, ⊎_elim, ℕ, List, [], ◌++◌, length, take, sym, ◌∙◌, ap, subst, arith, length-append}
+use Rattle.std.specs.Prelude.{Some, None, is_some, Result, Ok, Err, IfOk, IfErr, OnOk, OnErr}
 use Rattle.std.specs.declared.option.Option.{Option}
 use Rattle.std.proofs.lemmas.Bool.{cases_lt}
 use Rattle.std.proofs.lemmas.List.{append-nil, nil_from_length}
-use Rattle.hb_edge.specs.Causes.{Rose}
 use Rattle.hb_edge.specs.Images.{Image}
-use Rattle.hb_edge.specs.Moments.{tick}
-use Rattle.hb_edge.specs.Stops.{Leaves}
 use Rattle.hb_edge.specs.Streams.{with_end, with_front, PutsPart}
 use Rattle.hb_table.specs.declared.order.Order.{Order}
 use Rattle.hb_table.specs.Lines.{lines_of}
-use Rattle.hb_table.specs.Log.{Kept}
 use Rattle.hb_table.specs.Orders.{AskAll}
-use Rattle.hb_table.specs.Table.{Entry, entries_with, reply_to}
-use Rattle.hb_table.specs.Run.{entries_after, replies, run_text, lines_text, IsFront, HasShown}
-use Rattle.hb_script.specs.Scripts.{NextOrder, FirstAsks}
+use Rattle.hb_table.specs.Table.{Entry}
+use Rattle.hb_table.specs.Run.{entries_after, replies, lines_text, IsFront}
+use Rattle.hb_script.specs.Scripts.{NextOrder}
 use Rattle.hb_console.specs.declared.stop.Stop.{Stop}
-use Rattle.hb_console.specs.declared.stop.Stop.TheVariants.{Sink, Disk, Memory}
 use Rattle.hb_console.specs.declared.table.Table.{Table}
-use Rattle.hb_console.specs.declared.reply.Reply.{Reply}
-use Rattle.hb_console.specs.Outside.{Outside, Faults, GoesOn, MayStop}
-use Rattle.hb_console.specs.Replies.{bytes_of}
-use Rattle.hb_console.specs.Stops.{StopsBy}
-use Rattle.hb_console.specs.Tables.{HasEntries, HasEither, IsReady, Answers, Stores}
-use Rattle.hb_console.specs.Runs.{ForOrders, Finishes, StopsAt, Survives, SurviveSince, IsBehind, BehindSince, Reached, Runs}
-use Rattle.hb_console.proofs.Replying.{with_end_twice, with_end_nothing, entries_after-append, replies-push, replies_front, front_trans, front_part, has_shown, has_shown-all}
-use Rattle.hb_console.proofs.Asking.{Asked, asked_none, asked_more, asked_first, asks_nothing}
+use Rattle.hb_console.specs.Outside.{Outside, Faults}
+use Rattle.hb_console.specs.Tables.{Stores}
+use Rattle.hb_console.specs.Runs.{ForOrders, Finishes, StopsAt, Survives, SurviveSince}
+use Rattle.hb_console.proofs.Replying.{with_end_twice, front_part, has_shown-all}
+use Rattle.hb_console.proofs.Asking.{asked_first, asks_nothing}
 use Rattle.hb_console.proofs.Settled.{stores_kept, stays_kept}
-use Rattle.hb_console.proofs.Behind.{AskedSoFar, asked_start, asked_on, for_asked, with_front_nothing, no_more, entries-push, front_push, behind_more, has_as, behind_served, behind_put, survives_behind}
+use Rattle.hb_console.proofs.Behind.{AskedSoFar, has_as, survives_behind}
 use Rattle.hb_console.proofs.Running.{IsPut, Running, Stands, view}
 
 module _ {D : Type 0} (content : D → Option Image) (left : D → ℕ → Image → Type 0) (last : D → ℕ) where

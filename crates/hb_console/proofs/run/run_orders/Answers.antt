@@ -1,6 +1,5 @@
-use Rattle.std.proofs.Common.{◌≡◌, ◌+◌, ℕ, List, [], length, arith, ◌∙◌, sym, ap, refl}
+use Rattle.std.proofs.Common.{arith, ◌∙◌, refl}
 use Rattle.std.proofs.lemmas.Result.{err_from_is_err_and}
-use Rattle.hb_edge.specs.Streams.{with_front}
 use Rattle.hb_console.specs.declared.stop.Stop.TheVariants.{Source, Sink, Disk, Memory}
 use Rattle.hb_console.specs.Outside.{seen}
 use Rattle.hb_console.proofs.Finishing.{done_last, stopped_last, survives_end}
