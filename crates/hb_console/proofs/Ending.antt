@@ -1,8 +1,7 @@
 -- How a run over one disk ends.
-use Rattle.std.proofs.Common.{◌≡◌, ◌≢◌, ◌⊎◌, inl, inr, ℕ, ◌≤◌, List, [], ◌++◌, length, refl, sym, ◌∙◌, ap, subst, arith}
-use Rattle.std.specs.Prelude.{Some, None, IfSome, IfOk, IfErr, Result, Ok, Err, is_some}
+use Rattle.std.proofs.Common.{◌≡◌, ◌≢◌, ◌⊎◌, inl, inr, ℕ, ◌≤◌, List, [], refl, ◌∙◌, ap, subst, arith}
+use Rattle.std.specs.Prelude.{Some, None, IfSome, Result, Ok, Err, is_some}
 use Rattle.std.specs.declared.option.Option.{Option}
-use Rattle.std.proofs.lemmas.List.{append-nil}
 use Rattle.hb_edge.specs.Causes.{Rose}
 use Rattle.hb_edge.specs.Images.{Image}
 use Rattle.hb_edge.specs.Moments.{tick}
@@ -12,18 +11,19 @@ use Rattle.hb_codec.specs.Spellings.{IsBodyOf}
 use Rattle.hb_table.specs.declared.order.Order.{Order}
 use Rattle.hb_table.specs.Log.{Kept, IsTableLog}
 use Rattle.hb_table.specs.Table.{Entry}
-use Rattle.hb_table.specs.Run.{entries_after, replies, run_text, IsFront, HasShown}
+use Rattle.hb_table.specs.Run.{run_text, HasShown}
 use Rattle.hb_console.specs.declared.stop.Stop.{Stop}
 use Rattle.hb_console.specs.declared.stop.Stop.TheVariants.{Usage, Source, Sink, Disk, Damaged, Memory}
 use Rattle.hb_console.specs.declared.table.Table.{Table}
 use Rattle.hb_console.specs.Ends.{Ends, ForRun, IsRefused, IsUntouched, Stands}
 use Rattle.hb_console.specs.Openings.{Fails, IsOneCall, Opens, MayNotOpen, Stays}
-use Rattle.hb_console.specs.Outside.{Outside, Faults, GoesOn, IsInTime, MayStop}
-use Rattle.hb_console.specs.Runs.{ForOrders, Finishes, StopsAt, Survives, SurviveSince, IsBehind, Reached, Runs}
+use Rattle.hb_console.specs.Outside.{Outside, GoesOn, IsInTime, MayStop}
+use Rattle.hb_console.specs.Runs.{ForOrders, Finishes, StopsAt, SurviveSince, Reached, Runs}
 use Rattle.hb_console.specs.Stops.{code_of, status_of}
-use Rattle.hb_console.specs.Tables.{HasEntries, IsNoTable, Stores}
+use Rattle.hb_console.specs.Tables.{IsNoTable, Stores}
 use Rattle.hb_console.proofs.Replying.{with_end_nothing, has_shown}
-use Rattle.hb_console.proofs.Running.{for_asked, asked_start, rose_since}
+use Rattle.hb_console.proofs.Behind.{for_asked, asked_start}
+use Rattle.hb_console.proofs.Halting.{rose_since}
 use Rattle.hb_console.proofs.Settled.{one_kept}
 use Rattle.hb_console.proofs.Starting.{told_all}
 

@@ -1,7 +1,5 @@
 -- The two records of an INSERT come next, and its row comes into the table.
-use Rattle.std.proofs.Common.{◌≡◌, inl, inr, ℕ, ◌+◌, ◌≤◌, ◌<◌, ◌^◌, List, [], ◌∷◌, ◌++◌, length, refl, sym, ◌∙◌, ap, subst, arith, false}
-use Rattle.std.specs.Prelude.{Some, None, FitsSigned}
-use Rattle.std.specs.Int.{w32}
+use Rattle.std.proofs.Common.{◌≡◌, inl, inr, ℕ, ◌+◌, ◌≤◌, ◌^◌, List, [], ◌∷◌, ◌++◌, refl, sym, ◌∙◌, ap, arith, false}
 use Rattle.std.specs.Ordering.{int_cmp}
 use Rattle.std.specs.BTreeMap.{insert_entry}
 use Rattle.hb_edge.specs.Images.{Image}
@@ -9,14 +7,12 @@ use Rattle.std.proofs.Common.{⊎_elim}
 use Rattle.std.proofs.lemmas.Bool.{cases_lt}
 use Rattle.hb_edge.specs.Runs.{weaker}
 use Rattle.hb_edge.specs.Stops.{Leaves}
-use Rattle.hb_types.specs.declared.change.LogItem.{LogItem}
 use Rattle.hb_types.specs.Records.{HasRecord, framed}
 use Rattle.hb_table.specs.Log.{Kept, IsEntry, prepare_of, commit_of}
 use Rattle.hb_table.specs.Table.{Entry, rows_of, has_key, with_row}
 use Rattle.hb_table.proofs.RowOrder.{has_key-rows_of, rows_of-push}
-use Rattle.hb_console.specs.declared.table.Committed.{Committed}
 use Rattle.hb_console.specs.Inserts.{IsNext, after_vote, after_commit}
-use Rattle.hb_console.specs.Tables.{HasEither, HasEntries, Reflects}
+use Rattle.hb_console.specs.Tables.{HasEither}
 use Rattle.hb_console.proofs.Rows.{insert_entry-new}
 use Rattle.hb_console.proofs.VoteRows.{vote_has_record}
 

@@ -6,6 +6,9 @@ pub mod Replaying
 pub mod OrderReplies
 pub mod Replying
 pub mod Asking
+pub mod Behind
+pub mod Halting
 pub mod Running
+pub mod Finishing
 pub mod Starting
 pub mod Ending

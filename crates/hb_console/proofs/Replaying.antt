@@ -1,11 +1,10 @@
 -- The records of a log, gone over one by one: which commits come next, and where the records go wrong.
-use Rattle.std.proofs.Common.{◌≡◌, ◌⊎◌, inl, inr, ℕ, ◌+◌, ◌<◌, List, [], ◌∷◌, ◌++◌, length, take, drop, get_or, add-one, take-append-drop, append_assoc, refl, sym, ◌∙◌, ap, subst, arith, ℤ, true, false}
+use Rattle.std.proofs.Common.{◌≡◌, inl, inr, ℕ, ◌+◌, ◌<◌, List, [], ◌∷◌, ◌++◌, length, take, drop, get_or, add-one, take-append-drop, append_assoc, refl, sym, ◌∙◌, ap, subst, true, false}
 use Rattle.std.proofs.Math.Seq.{take-suc}
 use Rattle.std.specs.Prelude.{Some, None}
-use Rattle.std.specs.declared.option.Option.{Option}
 use Rattle.hb_types.specs.declared.change.LogItem.{LogItem}
 use Rattle.hb_types.specs.declared.change.Placed.{Placed}
-use Rattle.hb_table.specs.Log.{Kept, Keeps, Votes, Commits, nothing_kept, prepare_of, commit_of}
+use Rattle.hb_table.specs.Log.{Kept, Keeps, nothing_kept, prepare_of, commit_of}
 use Rattle.hb_table.specs.Table.{Entry, has_key}
 use Rattle.hb_table.proofs.KeptLemmas.{keeps_one, keeps-split}
 use Rattle.hb_console.specs.declared.stop.Stop.{Stop}

@@ -1,181 +1,29 @@
--- A run on its way: what is left behind after each order and each put, where it stops, and its end.
-use Rattle.std.proofs.Common.{◌≡◌, ◌≢◌, ◌⊎◌, inl, inr, ⊎_elim, ℕ, ◌+◌, ◌<◌, ◌≤◌, List, [], ◌∷◌, ◌++◌, length, take, refl, sym, ◌∙◌, ap, subst, arith, append_assoc, length-append, true, false}
-use Rattle.std.specs.Prelude.{Some, None, IfSome, is_some, max, Result, Ok, Err, IfOk, IfErr, OnOk, OnErr}
+-- A run on its way, from order to order, and where it stops.
+use Rattle.std.proofs.Common.{◌≡◌, ◌≢◌, ℕ, ◌+◌, ◌<◌, ◌≤◌, List, [], ◌∷◌, ◌++◌, length, take, refl, sym, ◌∙◌, ap, subst, arith, length-append}
+use Rattle.std.specs.Prelude.{Some, is_some, max, Result, Err}
 use Rattle.std.specs.declared.option.Option.{Option}
-use Rattle.std.proofs.lemmas.Bool.{cases_lt}
-use Rattle.std.proofs.lemmas.List.{append-nil, nil_from_length}
-use Rattle.hb_edge.specs.Causes.{Rose}
+use Rattle.std.proofs.lemmas.List.{append-nil}
 use Rattle.hb_edge.specs.Images.{Image}
 use Rattle.hb_edge.specs.Moments.{tick}
 use Rattle.hb_edge.specs.Stops.{Leaves}
 use Rattle.hb_edge.specs.Streams.{with_end, with_front, PutsPart}
 use Rattle.hb_table.specs.declared.order.Order.{Order}
-use Rattle.hb_table.specs.Lines.{lines_of}
 use Rattle.hb_table.specs.Log.{Kept}
-use Rattle.hb_table.specs.Orders.{AskAll}
 use Rattle.hb_table.specs.Table.{Entry, entries_with, reply_to}
-use Rattle.hb_table.specs.Run.{entries_after, replies, run_text, lines_text, IsFront, HasShown}
-use Rattle.hb_script.specs.Scripts.{NextOrder, FirstAsks}
+use Rattle.hb_table.specs.Run.{entries_after, replies, IsFront}
+use Rattle.hb_script.specs.Scripts.{NextOrder}
 use Rattle.hb_console.specs.declared.stop.Stop.{Stop}
-use Rattle.hb_console.specs.declared.stop.Stop.TheVariants.{Sink, Disk, Memory}
+use Rattle.hb_console.specs.declared.stop.Stop.TheVariants.{Disk}
 use Rattle.hb_console.specs.declared.table.Table.{Table}
 use Rattle.hb_console.specs.declared.reply.Reply.{Reply}
 use Rattle.hb_console.specs.Outside.{Outside, Faults, GoesOn, MayStop}
 use Rattle.hb_console.specs.Replies.{bytes_of}
-use Rattle.hb_console.specs.Stops.{StopsBy}
 use Rattle.hb_console.specs.Tables.{HasEntries, HasEither, IsReady, Answers, Stores}
-use Rattle.hb_console.specs.Runs.{ForOrders, Finishes, StopsAt, Survives, SurviveSince, IsBehind, BehindSince, Reached, Runs}
-use Rattle.hb_console.proofs.Replying.{with_end_twice, with_end_nothing, entries_after-append, replies-push, replies_front, front_trans, front_part, has_shown, has_shown-all}
-use Rattle.hb_console.proofs.Asking.{Asked, asked_none, asked_more, asked_first, asks_nothing}
+use Rattle.hb_console.specs.Runs.{BehindSince, Reached, Runs}
+use Rattle.hb_console.proofs.Replying.{with_end_twice, replies-push, front_part}
 use Rattle.hb_console.proofs.Settled.{stores_kept, stays_kept}
-
--- ---- the orders that were asked
-
-with_front_nothing : (told : Option (List ℕ)) → with_front [] told ≡ told
-with_front_nothing None = refl
-with_front_nothing (Some bytes) = refl
-
-abbrev pub AskedSoFar : Option (List ℕ) → Option (List ℕ) → List Order → Type 0
-AskedSoFar all rest done = IfSome all (λ input. IfSome rest (λ more. Asked input more done))
-
-pub asked_start : (all : Option (List ℕ)) → AskedSoFar all all []
-asked_start None = tt
-asked_start (Some input) = asked_none input
-
-pub asked_on : (all rest more : Option (List ℕ)) (done : List Order) (order : Order) → AskedSoFar all rest done → NextOrder (Some order) rest more → AskedSoFar all more (done ++ order ∷ [])
-asked_on None rest more done order asked next = tt
-asked_on (Some input) None None done order asked next = tt
-asked_on (Some input) None (Some m) done order asked next = let told : true ≡ false = next.0 in absurd (cc)
-asked_on (Some input) (Some r) None done order asked next = tt
-asked_on (Some input) (Some r) (Some m) done order asked next = asked_more input r m done order asked next.1
-
-pub for_asked : (all rest : Option (List ℕ)) (done : List Order) (P : List Order → Type 0) → is_some rest ≡ is_some all → AskedSoFar all rest done → ((later : List Order) → P (done ++ later)) → ForOrders all P
-for_asked None rest done P told asked each = tt
-for_asked (Some input) None done P told asked each = absurd (cc)
-for_asked (Some input) (Some more) done P told asked each = λ orders asks. let found = asked_first input more done orders asked asks in subst P (sym found.1) (each found.0)
-
--- ---- what is left behind
-
-no_more : (xs : List ℕ) → IsFront xs xs
-no_more xs = ([], sym (append-nil xs))
-
-entries-push : (start : List Entry) (done : List Order) (order : Order) → entries_after start (done ++ order ∷ []) ≡ entries_with (entries_after start done) order
-entries-push start done order = entries_after-append start done (order ∷ [])
-
-front_push : (start : List Entry) (done : List Order) (order : Order) → IsFront (replies 1 start done) (replies 1 start (done ++ order ∷ []))
-front_push start done order = (reply_to (1 + length done) (entries_after start done) order, replies-push (1 + length done) start done order refl)
-
-behind_more : (start : List Entry) (done more : List Order) (held out : Option (List ℕ)) (image : Image) → IsBehind start done held out image → IsBehind start (done ++ more) held out image
-behind_more start done more held out image behind = record {
-  first = behind.first;
-  later = behind.later ++ more;
-  split = ap (λ (os : List Order). os ++ more) behind.split ∙ append_assoc behind.first behind.later more;
-  has = behind.has;
-  shown = behind.shown;
-  gained = behind.gained;
-  front = behind.front;
-}
-
-has_as : (image : Image) (a b : List Entry) → a ≡ b → HasEntries image a → HasEntries image b
-has_as image a b same has = subst (HasEntries image) same has
-
--- an order was in the works, and nothing of its reply was put
-pub behind_served : (since moment put_at : ℕ) (start : List Entry) (done : List Order) (order : Order) (held output : Option (List ℕ)) (shown : ℕ → Option (List ℕ)) (old new : ℕ → Image → Type 0) (entries : List Entry)
-    → BehindSince since start done held shown old → Leaves moment old new (λ m image. HasEither entries (entries_with entries order) image) → entries ≡ entries_after start done
-    → put_at ≤ moment → ((m : ℕ) → put_at ≤ m → shown m ≡ output) → output ≡ with_end (replies 1 start done) held
-    → BehindSince since start (done ++ order ∷ []) held shown new
-behind_served since moment put_at start done order held output shown old new entries behind leaves entries_are in_time stands text m image le is =
-    ⊎_elim (λ early. behind_more start done (order ∷ []) held (shown m) image (behind m image le (leaves.before m image early is)))
-    (λ late. ⊎_elim (λ was. before late was) (λ now. after late now) (leaves.each m image late is))
-    (cases_lt m moment)
-  where
-    out : moment ≤ m → shown m ≡ with_end (replies 1 start done) held
-    out late = stands m (omega (arith, late, in_time)) ∙ text
-
-    before : moment ≤ m → HasEntries image entries → IsBehind start (done ++ order ∷ []) held (shown m) image
-    before late was = record { first = done; later = order ∷ []; split = refl; has = has_as image _ _ entries_are was; shown = replies 1 start done; gained = out late; front = no_more (replies 1 start done) }
-
-    after : moment ≤ m → HasEntries image (entries_with entries order) → IsBehind start (done ++ order ∷ []) held (shown m) image
-    after late now = record {
-      first = done ++ order ∷ [];
-      later = [];
-      split = sym (append-nil (done ++ order ∷ []));
-      has = has_as image _ _ (ap (λ (es : List Entry). entries_with es order) entries_are ∙ sym (entries-push start done order)) now;
-      shown = replies 1 start done;
-      gained = out late;
-      front = front_push start done order;
-    }
-
--- some text was put while the log was settled
-pub behind_put : (since moment : ℕ) (start : List Entry) (done : List Order) (held : Option (List ℕ)) (shown shown' : ℕ → Option (List ℕ)) (left : ℕ → Image → Type 0) (text : List ℕ)
-    → BehindSince since start done held shown left → ((m : ℕ) → m < moment → shown' m ≡ shown m) → ((m : ℕ) → moment ≤ m → shown' m ≡ with_end text held)
-    → ((m : ℕ) (image : Image) → moment ≤ m → left m image → HasEntries image (entries_after start done)) → IsFront text (replies 1 start done) → BehindSince since start done held shown' left
-behind_put since moment start done held shown shown' left text behind before now stays front m image le is =
-    ⊎_elim (λ early. subst (λ (o : Option (List ℕ)). IsBehind start done held o image) (sym (before m early)) (behind m image le is))
-    (λ late. record { first = done; later = []; split = sym (append-nil done); has = stays m image late is; shown = text; gained = now m late; front = front })
-    (cases_lt m moment)
-
--- what is behind survives
-pub survives_behind : (start : List Entry) (done later : List Order) (held out : Option (List ℕ)) (image : Image) → IsBehind start done held out image → Survives start (done ++ later) held out image
-survives_behind start done later held out image behind = record {
-  entries = entries_after start behind.first;
-  has = behind.has;
-  shown = behind.shown;
-  gained = behind.gained;
-  has_shown = subst (λ (os : List Order). HasShown start os behind.shown (entries_after start behind.first)) (sym (ap (λ (os : List Order). os ++ later) behind.split ∙ append_assoc behind.first behind.later later))
-      (has_shown start behind.first (behind.later ++ later) behind.shown behind.front);
-}
-
--- ---- where a run stops
-
--- what the disk stores where a run stopped
-pub record StoresFirst (start : List Entry) (done : List Order) (shown : List ℕ) (after : Outside) : Type 0 where
-  pub first : List Order
-  pub later : List Order
-  pub split : done ≡ first ++ later
-  pub stores : Stores (entries_after start first) after.content after.left after.last
-  pub front : IsFront shown (replies 1 start first)
-
--- a run stopped when these orders were done or in the works
-pub record Halts (since : ℕ) (all held : Option (List ℕ)) (after : Outside) (start : List Entry) (stop : Stop) : Type 0 where
-  pub rest : Option (List ℕ)
-  pub done : List Order
-  pub told : is_some rest ≡ is_some all
-  pub asked : AskedSoFar all rest done
-  pub shown : List ℕ
-  pub text : after.output ≡ with_end shown held
-  pub front : IsFront shown (replies 1 start done)
-  pub stored : stop ≢ Disk → StoresFirst start done shown after
-  pub behind : BehindSince since start done held after.shown after.left
-
-halts_stops : (since : ℕ) (before after : Outside) (start : List Entry) (stop : Stop) → Halts since before.input before.output after start stop → ForOrders before.input (StopsAt before after start stop)
-halts_stops since before after start stop halts = for_asked before.input halts.rest halts.done _ halts.told halts.asked (λ later. record {
-  shown = halts.shown;
-  text = halts.text;
-  front = front_trans halts.shown (replies 1 start halts.done) (run_text start (halts.done ++ later)) halts.front (replies_front start halts.done later);
-  stores = λ other.
-      let s = halts.stored other in (
-        entries_after start s.first,
-        s.stores,
-        subst (λ (os : List Order). HasShown start os halts.shown (entries_after start s.first)) (sym (ap (λ (os : List Order). os ++ later) s.split ∙ append_assoc s.first s.later later)) (has_shown start s.first (s.later ++ later) halts.shown s.front),
-      );
-})
-
-halts_survives : (since : ℕ) (before after : Outside) (start : List Entry) (stop : Stop) → Halts since before.input before.output after start stop → ForOrders before.input (SurviveSince since before after start)
-halts_survives since before after start stop halts = for_asked before.input halts.rest halts.done _ halts.told halts.asked (λ later m image le is. survives_behind start halts.done later before.output (after.shown m) image (halts.behind m image le is))
-
--- a stop by one device
-pub by_device : (before after : Faults) (device stop : Stop) (was now : ℕ) → (((stop ≡ device) × Rose was now) ⊎ (stop ≡ Memory)) → (Rose was now → MayStop before after device) → MayStop before after stop
-by_device before after device stop was now (inl cause) rose = subst (MayStop before after) (sym cause.0) (rose cause.1)
-by_device before after device stop was now (inr memory) rose = subst (MayStop before after) (sym memory) tt
-
--- after a call of one device
-pub goes_nowhere : (outside : Outside) → GoesOn outside outside
-goes_nowhere outside = record { source = omega arith; sink = omega arith; disk = omega arith; moment = omega arith; output = refl; content = refl }
-
--- a count that rose since a later moment
-pub rose_since : (before mid now : ℕ) → before ≤ mid → Rose mid now → Rose before now
-rose_since before mid now later rose = omega arith
+use Rattle.hb_console.proofs.Behind.{AskedSoFar, asked_start, asked_on, with_front_nothing, no_more, entries-push, front_push, has_as, behind_served, behind_put}
+use Rattle.hb_console.proofs.Halting.{Halts, halts_stops, halts_survives}
 
 module _ {D : Type 0} (content : D → Option Image) (left : D → ℕ → Image → Type 0) (last : D → ℕ) where
   -- these orders are done, and they are what was asked so far
@@ -196,7 +44,7 @@ module _ {D : Type 0} (content : D → Option Image) (left : D → ℕ → Image
   abbrev pub view : Option (List ℕ) → Option (List ℕ) → (ℕ → Option (List ℕ)) → ℕ → ℕ → Faults → Table D → Outside
   view input output shown put_at moment faults table = record { input = input; output = output; shown = shown; put_at = put_at; content = content table.log.disk; left = left table.log.disk; last = last table.log.disk; moment = moment; faults = faults }
 
-  abbrev Stands : Table D → Type 0
+  abbrev pub Stands : Table D → Type 0
   Stands table = (m : ℕ) (image : Image) → last table.log.disk ≤ m → left table.log.disk m image → left table.log.disk (last table.log.disk) image
 
   -- one put, at a moment
@@ -351,6 +199,7 @@ module _ {D : Type 0} (content : D → Option Image) (left : D → ℕ → Image
         stopped = λ since start reached. halts_stops since before after start stop (halts since start reached);
         survives = λ since start reached. halts_survives since before after start stop (halts since start reached);
       })
+<<<<<<< HEAD
 
   -- the source came to its end, and the count of lines is put, or a part of it
   module _ (since : ℕ) (start : List Entry) (before : Outside) (rest : Option (List ℕ)) (reader : List ℕ) (number : ℕ) (table : Table D) (input output : Option (List ℕ)) (shown : ℕ → Option (List ℕ)) (put_at moment : ℕ)
@@ -434,3 +283,5 @@ module _ {D : Type 0} (content : D → Option Image) (left : D → ℕ → Image
 pub cause_last : (before after : Faults) (was now : ℕ) (result : Result (Unit {0}) Stop) → StopsBy Sink was now result → (Rose was now → Rose before.sink after.sink) → IfErr result (MayStop before after)
 cause_last first then was now (Ok done) by rose = tt
 cause_last first then was now (Err stop) by rose = by_device first then Sink stop was now by.cause rose
+=======
+>>>>>>> gated

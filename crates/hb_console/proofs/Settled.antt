@@ -1,25 +1,23 @@
 -- The images of a table's log: what each comes to, what is left of a settled one, and one record more.
-use Rattle.std.proofs.Common.{◌≡◌, ◌≢◌, ◌⊎◌, inl, inr, ⊎_elim, ℕ, ◌+◌, ◌<◌, ◌≤◌, List, [], ◌∷◌, ◌++◌, length, refl, sym, ◌∙◌, ap, subst, arith, true, false}
-use Rattle.std.specs.Prelude.{nat_lt, map, Option, Some, Result, Ok, Err, IfErr}
+use Rattle.std.proofs.Common.{◌≡◌, ◌≢◌, inl, inr, ⊎_elim, ℕ, ◌<◌, ◌≤◌, List, [], ◌∷◌, ◌++◌, length, refl, sym, ap, subst, arith, true, false}
+use Rattle.std.specs.Prelude.{nat_lt, Option, Result, Ok, Err, IfErr}
 use Rattle.std.proofs.lemmas.Bool.{cases_lt}
 use Rattle.std.proofs.lemmas.Bool.Decides.{nat_tests}
 use Rattle.hb_edge.specs.Images.{Image}
-use Rattle.hb_edge.specs.Runs.{started, weaker}
-use Rattle.hb_edge.specs.Stops.{Leaves, Only}
+use Rattle.hb_edge.specs.Stops.{Leaves}
 use Rattle.hb_codec.specs.Reading.{OneForm}
 use Rattle.hb_codec.specs.Spellings.{IsBodyOf}
 use Rattle.hb_types.specs.declared.change.LogItem.{LogItem}
 use Rattle.hb_types.specs.declared.change.LogItem.TheVariants.{Prepare, Commit, Abort, Decision, Ids}
 use Rattle.hb_types.specs.declared.change.Placed.{Placed}
-use Rattle.hb_types.specs.Logs.{gate, StandsAt, Records, RecordsFrom, readable}
+use Rattle.hb_types.specs.Logs.{gate, Records, RecordsFrom, readable}
 use Rattle.hb_types.specs.Records.{body_bytes}
 use Rattle.hb_log.specs.declared.log.Log.{Log}
-use Rattle.hb_log.specs.Log.{IsSettled, IsBeforeOrAfter, IsSameOrShort}
+use Rattle.hb_log.specs.Log.{IsSettled, IsBeforeOrAfter}
 use Rattle.hb_log.proofs.Readings.{one_reading}
 use Rattle.hb_table.specs.Log.{Kept, Keeps, IsTableLog, nothing_kept}
-use Rattle.hb_table.specs.Table.{Entry, AreDistinct}
+use Rattle.hb_table.specs.Table.{AreDistinct}
 use Rattle.hb_table.proofs.KeptLemmas.{keeps_one, keeps-push, kept_distinct}
-use Rattle.hb_console.specs.Inserts.{IsNext}
 use Rattle.hb_console.specs.Tables.{HasEntries, HasEither, Stores, Follows, ComesTo, items_of}
 
 pub one_kept : OneForm IsBodyOf → (image : List ℕ) (a b : Kept) → IsTableLog image a → IsTableLog image b → a ≡ b

@@ -1,5 +1,5 @@
 -- The opening: what the start of a log leaves, and why it stops.
-use Rattle.std.proofs.Common.{◌≡◌, ◌≢◌, ◌⊎◌, inl, inr, ⊎_elim, ℕ, ◌+◌, ◌<◌, ◌≤◌, List, [], length, refl, sym, ◌∙◌, ap, subst, arith}
+use Rattle.std.proofs.Common.{◌≡◌, inl, inr, ⊎_elim, ℕ, ◌<◌, ◌≤◌, List, length, refl, sym, ◌∙◌, ap, subst, arith}
 use Rattle.std.specs.Prelude.{Some, None, IfSome, max, is_some, true, false}
 use Rattle.std.specs.declared.option.Option.{Option}
 use Rattle.std.proofs.lemmas.Bool.{cases_lt}
@@ -13,19 +13,17 @@ use Rattle.hb_types.specs.declared.change.Placed.{Placed}
 use Rattle.hb_types.specs.Logs.{Records, readable}
 use Rattle.hb_log.specs.declared.fault.LogFault.{LogFault}
 use Rattle.hb_log.specs.declared.fault.LogFault.TheVariants as fault
-use Rattle.hb_log.specs.declared.log.Log.{Log}
-use Rattle.hb_log.specs.Log.{IsSettled, IsSameOrShort}
+use Rattle.hb_log.specs.Log.{IsSameOrShort}
 use Rattle.hb_log.specs.Standing.{Breaks}
 use Rattle.hb_log.proofs.Readings.{never_both, one_reading}
 use Rattle.hb_table.specs.Log.{Kept, Keeps, IsTableLog, nothing_kept}
-use Rattle.hb_table.specs.Table.{Entry}
 use Rattle.hb_console.specs.declared.stop.Stop.{Stop}
-use Rattle.hb_console.specs.declared.stop.Stop.TheVariants.{Usage, Source, Sink, Disk, Damaged, Memory}
-use Rattle.hb_console.specs.Openings.{Fails, IsOneCall, MayNotOpen, Stays}
+use Rattle.hb_console.specs.declared.stop.Stop.TheVariants.{Damaged, Memory}
+use Rattle.hb_console.specs.Openings.{Fails, MayNotOpen, Stays}
 use Rattle.hb_console.specs.Replays.{Refuses}
 use Rattle.hb_console.specs.Stops.{log_stop}
-use Rattle.hb_console.specs.Tables.{ComesTo, HasEntries, IsNoTable, Stores, items_of}
-use Rattle.hb_console.proofs.Settled.{has_kept, one_kept, short_log, readable_long, stores_kept}
+use Rattle.hb_console.specs.Tables.{HasEntries, IsNoTable, Stores, items_of}
+use Rattle.hb_console.proofs.Settled.{has_kept, one_kept, short_log, readable_long}
 
 -- where the disk reads as a log, what is left has the same entries
 pub same_entries : OneForm IsBodyOf → (read image : Image) (kept : Kept) → IsTableLog read kept → IsSameOrShort read image → HasEntries image kept.entries

@@ -1,19 +1,17 @@
 -- The record of a vote is in the grammar, and a row of the table has no other values.
-use Rattle.std.proofs.Common.{◌≡◌, ℕ, ◌+◌, ◌<◌, ◌≤◌, ◌^◌, List, [], ◌∷◌, ◌++◌, length, get_or, take, drop, refl, sym, ◌∙◌, ap, subst, arith, rules, length-append, ℤ, lit<}
-use Rattle.std.specs.Prelude.{Some, None, FitsSigned, IsTrue, All}
+use Rattle.std.proofs.Common.{◌≡◌, ℕ, ◌+◌, ◌<◌, ◌≤◌, ◌^◌, List, [], ◌∷◌, ◌++◌, length, get_or, take, drop, refl, sym, ◌∙◌, ap, arith, length-append, ℤ, lit<}
+use Rattle.std.specs.Prelude.{FitsSigned}
 use Rattle.std.specs.Int.{to_le_bytes, from_le_bytes, cast_unsigned, cast_signed, w32, w64}
-use Rattle.std.specs.declared.option.Option.{Option}
 use Rattle.std.proofs.lemmas.Grind.{common_steps}
 use Rattle.std.proofs.lemmas.List.{append-nil}
 use Rattle.std.proofs.lemmas.List.Elements.{All-from_recursion, recursion_from_All}
 use Rattle.std.proofs.lemmas.Nat.{from_le_bytes-to_le_bytes_4}
 use Rattle.std.proofs.lemmas.Int.{to_z-of_z, ints}
-use Rattle.hb_types.specs.declared.change.Change.{Change}
 use Rattle.hb_types.specs.declared.value.Value.{Value}
 use Rattle.hb_types.specs.declared.value.Value.TheVariants as value
 use Rattle.hb_types.specs.Places.{IsPlace}
 use Rattle.hb_types.specs.Records.{HasRecord, IsChange, body_bytes}
-use Rattle.hb_types.specs.Rows.{row_bytes, HaveRow, HasBytes, IsRow, IsRowOf}
+use Rattle.hb_types.specs.Rows.{row_bytes, HaveRow, HasBytes, IsRow}
 use Rattle.hb_table.specs.Log.{IsEntry, place_of, change_of, prepare_of}
 use Rattle.hb_table.specs.Table.{Entry}
 

@@ -1,7 +1,7 @@
 -- The records of a log, gone over one by one.
-use Rattle.std.specs.Prelude.{◌≡◌, ◌⊎◌, ℕ, List, Result, MatchResult, IfErr}
+use Rattle.std.specs.Prelude.{◌≡◌, ◌⊎◌, Result, MatchResult}
 use Rattle.hb_types.specs.declared.change.LogItem.{LogItem}
-use Rattle.hb_table.specs.Log.{Kept, Keeps, nothing_kept}
+use Rattle.hb_table.specs.Log.{Kept}
 use Rattle.hb_console.specs.declared.stop.Stop.{Stop}
 use Rattle.hb_console.specs.declared.stop.Stop.TheVariants.{Damaged, Memory}
 use Rattle.hb_console.specs.declared.replay.Replay.{Replay}

@@ -1,5 +1,5 @@
 -- What the table in memory, its log and an image of its disk stand for.
-use Rattle.std.specs.Prelude.{◌≡◌, ◌⊎◌, ℕ, ◌≤◌, List, map, Option, Some, None}
+use Rattle.std.specs.Prelude.{◌≡◌, ◌⊎◌, ℕ, ◌≤◌, List, map, Option, Some}
 use Rattle.hb_edge.specs.Images.{Image}
 use Rattle.hb_edge.specs.Stops.{Only}
 use Rattle.hb_log.specs.declared.log.Log.{Log}

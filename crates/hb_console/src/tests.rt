@@ -126,6 +126,13 @@ fn run_twice(alloc: Global, failing: u64, pick: u16) -> Result<(Left, Left), NoM
     Ok((first, second))
 }
 
+/// Changes the byte at a place, if there is one.
+fn change(image: &mut [u8], at: usize) {
+    if let Some(byte) = image.get_mut(at) {
+        *byte ^= 0x21;
+    }
+}
+
 /// How many inserts are shown committed.
 fn shown(text: &[u8]) -> usize {
     if text.len() >= 71 {
@@ -277,7 +284,7 @@ fn a_log_of_one_changed_byte_opens_or_is_damaged(rt: HostRuntime) -> Result<(), 
     let good = good.disk();
     for i in 0..good.len() {
         let mut image = good.to_vec(rt.alloc())?;
-        image[i] ^= 0x21;
+        change(&mut image, i);
         let left = run(rt.alloc(), SCAN, image.as_slice(), NONE)?;
         assert!(rt; left.status == 0 || left.status == 6);
         if left.status == 6 {
@@ -288,7 +295,7 @@ fn a_log_of_one_changed_byte_opens_or_is_damaged(rt: HostRuntime) -> Result<(), 
     // the transaction of the first commit, and its number
     for i in [INSERTED - 16, INSERTED - 8] {
         let mut image = good.to_vec(rt.alloc())?;
-        image[i] ^= 0x21;
+        change(&mut image, i);
         assert_eq!(rt; run(rt.alloc(), SCAN, image.as_slice(), NONE)?.status, 6);
     }
     Ok(())

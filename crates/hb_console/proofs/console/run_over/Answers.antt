@@ -1,4 +1,3 @@
-use Rattle.std.proofs.Common.{sym, subst}
 use Rattle.hb_console.proofs.Ending.{opening_ends, run_ends}
 use Rattle.hb_console.proofs.console.run_over.Goals as goal
 

@@ -1,4 +1,4 @@
-use Rattle.std.proofs.Common.{◌≡◌, ◌≤◌, ℕ, List, inl, refl, sym, ◌∙◌, subst, arith}
+use Rattle.std.proofs.Common.{◌≤◌, List, inl, refl, ◌∙◌, subst, arith}
 use Rattle.hb_types.specs.declared.change.Placed.{Placed}
 use Rattle.hb_table.specs.Log.{Keeps, IsTableLog, nothing_kept}
 use Rattle.hb_console.specs.Tables.{items_of}

@@ -1,8 +1,7 @@
-use Rattle.std.proofs.Common.{◌≡◌, ◌<◌, ◌+◌, ℕ, ℤ, List, [], ◌∷◌, ◌++◌, length, false, inl, ◌∙◌, sym, ap, refl, arith, rules, SFits, w32}
+use Rattle.std.proofs.Common.{◌≡◌, ◌+◌, ℕ, [], ◌∷◌, ◌++◌, inl, ◌∙◌, ap, refl, SFits, w32}
 use Rattle.std.specs.Ordering.{int_cmp}
 use Rattle.std.specs.BTreeMap.{insert_entry}
 use Rattle.std.proofs.lemmas.Int.{to_z-of_z}
-use Rattle.hb_edge.specs.Images.{Image}
 use Rattle.hb_table.specs.Table.{Entry, inserted_text}
 use Rattle.hb_table.proofs.KeptLemmas.{kept_count}
 use Rattle.hb_console.specs.Inserts.{Inserts, after_vote, after_commit}

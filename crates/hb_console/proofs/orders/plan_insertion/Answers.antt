@@ -2,7 +2,7 @@ use Rattle.std.proofs.Common.{◌≡◌, ◌+◌, ◌<◌, ◌∷◌, [], ◌++�
 use Rattle.std.proofs.lemmas.Int.{to_z-of_z}
 use Rattle.hb_types.specs.declared.change.LogItem.{LogItem}
 use Rattle.hb_types.specs.Records.{HasRecord, framed}
-use Rattle.hb_table.specs.Log.{IsEntry, prepare_of}
+use Rattle.hb_table.specs.Log.{prepare_of}
 use Rattle.hb_table.specs.Table.{inserted_text}
 use Rattle.hb_console.proofs.VoteRows.{vote_has_record}
 use Rattle.hb_console.proofs.Inserting.{vote_next, commit_next}

@@ -1,4 +1,4 @@
-use Rattle.std.proofs.Common.{◌≡◌, ◌∙◌, inl, ap, refl, SFits, w32, rules}
+use Rattle.std.proofs.Common.{◌∙◌, inl, ap, refl, SFits, w32, rules}
 use Rattle.std.proofs.lemmas.Int.{to_z-of_z}
 use Rattle.hb_table.specs.Table.{entries_with, rows_text}
 use Rattle.hb_console.specs.Tables.{HasEither}

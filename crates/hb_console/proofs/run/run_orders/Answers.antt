@@ -1,9 +1,10 @@
-use Rattle.std.proofs.Common.{◌≡◌, ◌+◌, ℕ, List, [], length, arith, ◌∙◌, sym, ap, refl}
+use Rattle.std.proofs.Common.{arith, ◌∙◌, refl}
 use Rattle.std.proofs.lemmas.Result.{err_from_is_err_and}
-use Rattle.hb_edge.specs.Streams.{with_front}
 use Rattle.hb_console.specs.declared.stop.Stop.TheVariants.{Source, Sink, Disk, Memory}
 use Rattle.hb_console.specs.Outside.{seen}
-use Rattle.hb_console.proofs.Running.{by_device, cause_last, done_last, goes_nowhere, halts_between, halts_served, halts_within, rose_since, runs_none, runs_on, runs_start, runs_stopped, stopped_last, survives_end}
+use Rattle.hb_console.proofs.Finishing.{done_last, stopped_last, survives_end}
+use Rattle.hb_console.proofs.Halting.{by_device, cause_last, goes_nowhere, rose_since}
+use Rattle.hb_console.proofs.Running.{halts_between, halts_served, halts_within, runs_none, runs_on, runs_start, runs_stopped}
 use Rattle.hb_console.proofs.run.run_orders.Goals as goal
 
 pub returns-in_err-reader : goal.returns-in_err-reader

@@ -1,7 +1,7 @@
 use Rattle.std.proofs.Common.{◌≡◌, [], ◌∷◌, sym, ◌∙◌, subst}
 use Rattle.hb_types.specs.declared.change.LogItem.{LogItem}
-use Rattle.hb_types.specs.declared.change.LogItem.TheVariants.{Prepare, Commit}
-use Rattle.hb_table.specs.Log.{prepare_of, commit_of, change_of}
+use Rattle.hb_types.specs.declared.change.LogItem.TheVariants.{Prepare}
+use Rattle.hb_table.specs.Log.{prepare_of, change_of}
 use Rattle.hb_console.specs.Replays.{Takes}
 use Rattle.hb_console.proofs.replay.Replay.take.Goals as goal
 
