@@ -1,9 +1,9 @@
 // One order: done in the table and its log, and answered by its reply.
-ghost use Rattle.std.specs.Prelude.{◌≡◌, ◌≢◌, ◌+◌, ◌++◌, ◌≤◌, ◌^◌, [], ◌∷◌, ℕ, List, length, false, is_some, IfOk, IfErr, OnOk};
+ghost use Rattle.std.specs.Prelude.{◌≡◌, ◌≢◌, ◌+◌, ◌++◌, ◌≤◌, ◌^◌, [], ◌∷◌, length, false, is_some, IfOk, IfErr, OnOk};
 ghost use Rattle.hb_edge.specs.Stops.{Leaves};
 ghost use Rattle.hb_table.specs.declared.order.Order.TheVariants.{Insert as Inserting};
 ghost use Rattle.hb_table.specs.Log.{Kept};
-ghost use Rattle.hb_table.specs.Table.{Entry, entries_with, reply_to, rows_of, rows_text, has_key, inserted_text};
+ghost use Rattle.hb_table.specs.Table.{entries_with, reply_to, has_key, inserted_text};
 ghost use Rattle.hb_console.specs.Inserts.{IsNext, Inserts};
 ghost use Rattle.hb_console.specs.Stops.{StopsBy};
 ghost use Rattle.hb_console.specs.Tables.{Answers, ComesTo, HasEither, IsReady, Reflects, Stores};

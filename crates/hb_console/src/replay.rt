@@ -1,5 +1,5 @@
 // The records of a log, gone over one by one.
-ghost use Rattle.std.specs.Prelude.{◌≡◌, IfOk, IfErr};
+ghost use Rattle.std.specs.Prelude.{IfOk, IfErr};
 ghost use Rattle.hb_table.specs.Log.{Kept, Keeps, nothing_kept, prepare_of, commit_of, IsEntry};
 ghost use Rattle.hb_console.specs.Replays.{IsRead, Refuses, Takes};
 ghost use Rattle.hb_console.specs.Tables.{Reflects, items_of};

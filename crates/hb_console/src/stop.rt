@@ -1,7 +1,7 @@
 // Why a command stops before its end.
 ghost use Rattle.std.specs.Prelude.{◌≡◌};
 ghost use Rattle.hb_console.specs.declared.stop.Stop.{Stop as AnyStop};
-ghost use Rattle.hb_console.specs.declared.stop.Stop.TheVariants.{Source as OfSource, Memory as OfMemory};
+ghost use Rattle.hb_console.specs.declared.stop.Stop.TheVariants.{Memory as OfMemory};
 ghost use Rattle.hb_console.specs.Stops.{code_of, word_of};
 
 use hb_log::LogFault;
