@@ -8,8 +8,8 @@ use Rattle.hb_types.specs.declared.answer.Answer.TheVariants as answer
 use Rattle.hb_types.specs.declared.request.Request.{Request}
 use Rattle.hb_types.specs.declared.request.Request.TheVariants as request
 use Rattle.hb_types.specs.declared.request.Vote.{Vote}
-use Rattle.hb_law.specs.Coordinator.{CState, reserved, begun, decided, ended, lost, came_up, happens, CTurns, CRun, stopped_at, nodes_of}
-use Rattle.hb_law.specs.ServerRuns.{Asked}
+use Rattle.hb_runs.specs.Coordinator.{CState, reserved, begun, decided, ended, lost, came_up, happens, CTurns, CRun, stopped_at, nodes_of}
+use Rattle.hb_runs.specs.ServerRuns.{Asked}
 
 abbrev owner : ℕ → Owner
 owner n = record { session = 0; nth = n }

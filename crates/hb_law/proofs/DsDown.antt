@@ -25,7 +25,7 @@ use Rattle.hb_disks.specs.Logless.{empty_images, empty_logs, empty_server}
 use Rattle.hb_disks.proofs.Empty.{empty_stands_with, empty_items}
 use Rattle.hb_law.specs.Callers.{Obeys, MayEnlist, MayBeDecided}
 use Rattle.hb_law.specs.Composition.{World, Together, NodesRan, CoordinatorRan, ServerRan, lists_of, AllObey, OperatorObeys, ShowsItems, shown_of}
-use Rattle.hb_law.specs.Coordinator as coordinator
+use Rattle.hb_runs.specs.Coordinator as coordinator
 use Rattle.hb_law.specs.Histories.{Labelled, Merged, Trails, Shown, stands, entries_of, calls_at}
 use Rattle.hb_law.specs.Transactions.{Txn, IsTxnOf, IsRightTxn}
 

@@ -12,9 +12,9 @@ use Rattle.hb_disks.specs.Redo.{Decided, upto_in}
 use Rattle.hb_disks.specs.Says.{decisions, uptos}
 use Rattle.hb_disks.specs.StandsFor.{greatest_upto}
 use Rattle.hb_disks.proofs.Fold.{decisions-append}
-use Rattle.hb_law.specs.Coordinator.{CState, CEffect, CRun, Allowed, Steps, RightIn, happens, reserved, begun, decided, ended, lost, came_up, IsActive, IsDecided, IsUndecided, without_active, ids_item, decision_item}
+use Rattle.hb_runs.specs.Coordinator.{CState, CEffect, CRun, Allowed, Steps, RightIn, happens, reserved, begun, decided, ended, lost, came_up, IsActive, IsDecided, IsUndecided, without_active, ids_item, decision_item}
 use Rattle.hb_law.specs.Finality.{IsReserved, AbortedStays, DecidedStays, decided_outcome}
-use Rattle.hb_law.specs.ServerRuns.{Asked}
+use Rattle.hb_runs.specs.ServerRuns.{Asked}
 
 -- ---- uptos of a log that grows
 

@@ -16,10 +16,10 @@ use Rattle.hb_types.specs.declared.request.Request.TheVariants as request
 use Rattle.hb_types.specs.Ladders.{ladder}
 use Rattle.hb_disks.specs.Redo.{nothing}
 use Rattle.hb_disks.specs.LogRules.{LocksAgree}
-use Rattle.hb_law.specs.Server.{SState, Branch, IsUnended}
-use Rattle.hb_law.specs.ServerEffects.{enlisted, written, prepared, committed, came_up, happens, after_all, grant, write}
-use Rattle.hb_law.specs.ServerCauses.{grants, IsBlocked, AreHolders}
-use Rattle.hb_law.specs.ServerRuns.{Asked, Turns, Run, stopped_at}
+use Rattle.hb_runs.specs.Server.{SState, Branch, IsUnended}
+use Rattle.hb_runs.specs.ServerEffects.{enlisted, written, prepared, committed, came_up, happens, after_all, grant, write}
+use Rattle.hb_runs.specs.ServerCauses.{grants, IsBlocked, AreHolders}
+use Rattle.hb_runs.specs.ServerRuns.{Asked, Turns, Run, stopped_at}
 use Rattle.hb_law.proofs.Locks.{IsLocked, Of, IsFit, run_locked}
 
 abbrev place : Place

@@ -13,9 +13,9 @@ use Rattle.hb_disks.specs.Points.{Format}
 use Rattle.hb_disks.specs.Redo.{redo}
 use Rattle.hb_disks.specs.LogPlaces.{end_behind}
 use Rattle.hb_disks.specs.StandsFor.{StandsWith, HaveBases, back_ends}
-use Rattle.hb_law.specs.ServerRuns as server
-use Rattle.hb_law.specs.Server as server_state
-use Rattle.hb_law.specs.Coordinator as coordinator
+use Rattle.hb_runs.specs.ServerRuns as server
+use Rattle.hb_runs.specs.Server as server_state
+use Rattle.hb_runs.specs.Coordinator as coordinator
 use Rattle.hb_law.specs.Callers.{Obeys}
 use Rattle.hb_law.specs.Explained.{Explained, ExplainedApart}
 use Rattle.hb_law.specs.Histories.{Trails, Labelled, Event, Shown, asked_of, Merged, History}

@@ -3,8 +3,8 @@ use Rattle.std.specs.Prelude.{ℕ, ◌+◌, ◌≤◌, List, ◌∷◌}
 use Rattle.hb_types.specs.declared.answer.Answer.TheVariants as answer
 use Rattle.hb_types.specs.declared.request.Request.TheVariants as request
 use Rattle.hb_disks.specs.StandsFor.{greatest_upto}
-use Rattle.hb_law.specs.Coordinator.{CState, CRun, IsDecided, IsUndecided}
-use Rattle.hb_law.specs.ServerRuns.{Asked}
+use Rattle.hb_runs.specs.Coordinator.{CState, CRun, IsDecided, IsUndecided}
+use Rattle.hb_runs.specs.ServerRuns.{Asked}
 
 -- no transaction is given that was not reserved
 abbrev pub IsReserved : CState → Type 0

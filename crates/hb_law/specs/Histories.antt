@@ -5,7 +5,7 @@ use Rattle.hb_types.specs.declared.trail.TrailEntry.{TrailEntry}
 use Rattle.hb_types.specs.Calls.{may_pass}
 use Rattle.hb_types.specs.Lists.{Each, EachBehind}
 use Rattle.hb_model.specs.declared.reply.Reply.{Reply}
-use Rattle.hb_law.specs.ServerRuns.{Asked}
+use Rattle.hb_runs.specs.ServerRuns.{Asked}
 
 -- an entry of a trail with the caller that made it: 0 is the operator, and the sessions follow
 pub record Labelled : Type 0 where

@@ -18,6 +18,7 @@ use Rattle.hb_model.specs.declared.line.Line.{Line}
 use Rattle.hb_model.specs.declared.reply.Reply.TheVariants as reply
 use Rattle.hb_disks.specs.Redo.{doubts}
 use Rattle.hb_types.specs.Lists.{Has}
+use Rattle.hb_runs.specs.Chains.{Follows, IsChain}
 
 -- ---- edges
 
@@ -51,14 +52,6 @@ pub record IsEdge (life : Life) (trail : List TrailEntry) (e : Edge) : Type 0 wh
   pub blocked : Any (WasBlocked e) trail
 
 -- ---- cycles
-
-abbrev pub Follows : Edge → Edge → Type 0
-Follows e f = e.holder ≡ f.waiter
-
-abbrev pub IsChain : List Edge → Type 0
-IsChain [] = ⊤
-IsChain (e ∷ []) = ⊤
-IsChain (e ∷ f ∷ es) = Follows e f × IsChain (f ∷ es)
 
 -- the last edge leads to the first
 abbrev pub Closes : Edge → List Edge → Type 0

@@ -12,8 +12,8 @@ use Rattle.hb_types.specs.Ladders.{ladder}
 use Rattle.hb_types.specs.Lists.{Each, Has}
 use Rattle.hb_types.specs.Modes.{compatible}
 use Rattle.hb_types.specs.Places.{same_path}
-use Rattle.hb_law.specs.Server.{Branch, SState, unended, IsLive, IsUnended, wanted}
-use Rattle.hb_law.specs.ServerEffects.{Effect, enlisted, granted, written, prepared, committed, aborted, dropped, lost, came_up, after_all}
+use Rattle.hb_runs.specs.Server.{Branch, SState, unended, IsLive, IsUnended, wanted}
+use Rattle.hb_runs.specs.ServerEffects.{Effect, enlisted, granted, written, prepared, committed, aborted, dropped, lost, came_up, after_all}
 
 -- ---- what a request causes
 

@@ -11,8 +11,8 @@ use Rattle.hb_types.specs.declared.request.Request.{Request}
 use Rattle.hb_types.specs.declared.request.Request.TheVariants as request
 use Rattle.hb_types.specs.Ladders.{upward}
 use Rattle.hb_types.specs.Put.{put_all, lookup, rows_under}
-use Rattle.hb_law.specs.Server.{Branch, SState, now, IsLive, IsAlive, IsInDoubt, IsUnended, HoldsOne}
-use Rattle.hb_law.specs.ServerEffects.{VoteHasRoom}
+use Rattle.hb_runs.specs.Server.{Branch, SState, now, IsLive, IsAlive, IsInDoubt, IsUnended, HoldsOne}
+use Rattle.hb_runs.specs.ServerEffects.{VoteHasRoom}
 
 -- ---- what a request is answered
 

@@ -15,7 +15,7 @@ use Rattle.hb_types.specs.Put.{normal}
 use Rattle.hb_types.specs.Records.{record_length, body_bytes}
 use Rattle.hb_disks.specs.LogRules.{IsHeld}
 use Rattle.hb_disks.specs.LogPlaces.{end_behind}
-use Rattle.hb_law.specs.Server.{Branch, SState, now, IsLive, IsAlive, IsInDoubt, IsUnended, wanted, granting, AllowsLock, HoldsOne}
+use Rattle.hb_runs.specs.Server.{Branch, SState, now, IsLive, IsAlive, IsInDoubt, IsUnended, wanted, granting, AllowsLock, HoldsOne}
 
 -- ---- effects
 

@@ -3,10 +3,10 @@ use Rattle.std.specs.Prelude.{◌≡◌, ℕ, false, List, [], ◌∷◌}
 use Rattle.hb_types.specs.declared.answer.Answer.{Answer}
 use Rattle.hb_types.specs.declared.request.Request.{Request}
 use Rattle.hb_disks.specs.Redo.{Redone}
-use Rattle.hb_law.specs.Server.{SState}
-use Rattle.hb_law.specs.ServerEffects.{Effect, Steps}
-use Rattle.hb_law.specs.ServerCauses.{Causes}
-use Rattle.hb_law.specs.ServerAnswers.{Right}
+use Rattle.hb_runs.specs.Server.{SState}
+use Rattle.hb_runs.specs.ServerEffects.{Effect, Steps}
+use Rattle.hb_runs.specs.ServerCauses.{Causes}
+use Rattle.hb_runs.specs.ServerAnswers.{Right}
 
 -- ---- runs
 

@@ -12,7 +12,7 @@ use Rattle.hb_types.specs.declared.answer.Answer.TheVariants as answer
 use Rattle.hb_types.specs.declared.answer.Edge.{Edge}
 use Rattle.hb_types.specs.declared.request.Request.{Request}
 use Rattle.hb_types.specs.declared.request.Request.TheVariants as request
-use Rattle.hb_law.specs.Waits.{IsChain}
+use Rattle.hb_runs.specs.Chains.{IsChain}
 use Rattle.hb_model.specs.NodeSets.{nodes_in}
 
 -- transactions entered with their owners; those whose End came; where a branch is left or was settled; and the kept edges

@@ -14,7 +14,7 @@ use Rattle.hb_types.specs.Records.{record_length}
 use Rattle.hb_disks.specs.Says.{decisions}
 use Rattle.hb_disks.specs.LogPlaces.{end_behind}
 use Rattle.hb_disks.specs.StandsFor.{greatest_upto}
-use Rattle.hb_law.specs.ServerRuns.{Asked}
+use Rattle.hb_runs.specs.ServerRuns.{Asked}
 
 -- the whole log, the next transaction, those begun and not ended since the last start, and whether it is up
 pub record CState : Type 0 where
