@@ -82,7 +82,10 @@ step k (begun t) tx a s =
 step k (decided t n nodes) tx a s = grown k tx (decision_item t n nodes) ((λ e. s.gone.over (subst (IsActive k) e a.0)), tt) s
 step k (ended t) tx a s =
     record { is_reserved = s.is_reserved; gone = record { given = s.gone.given; over = λ h. s.gone.over (still t tx k.active h); undecided = s.gone.undecided } }
-step k lost tx a s = record { is_reserved = s.is_reserved; gone = record { given = s.gone.given; over = λ h. h; undecided = s.gone.undecided } }
+step k lost tx a s =
+    let r : k.next ≤ greatest_upto k.log + 1 = s.is_reserved in
+    let below : tx < k.next = s.gone.given in
+    record { is_reserved = omega arith; gone = record { given = omega arith; over = λ h. h; undecided = s.gone.undecided } }
 step k came_up tx a s =
     let r : k.next ≤ greatest_upto k.log + 1 = s.is_reserved in
     let below : tx < k.next = s.gone.given in

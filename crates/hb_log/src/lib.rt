@@ -1,6 +1,7 @@
 //! A log whose records count once their gate is opened.
 #![tactic(auto)]
 
+mod armed;
 mod fault;
 mod force;
 mod laws;

@@ -21,7 +21,7 @@ use std::alloc::Global;
 /// A log: records one behind another, each of which counts once its gate is opened, and a closed gate.
 #[derive(Drop)]
 pub struct Log<D: Disk> {
-    disk: D,
+    pub(crate) disk: D,
     /// The place of the closed gate.
     end: u64,
     items: Vec<Placed>,

@@ -23,6 +23,10 @@ pub record CState : Type 0 where
   pub active : List ℕ
   pub up : Bool
 
+-- a stopped coordinator: of what it was only its log counts
+abbrev pub stopped_at : List LogItem → CState
+stopped_at log = record { log = log; next = greatest_upto log + 1; active = []; up = false }
+
 -- ---- what the log says
 
 abbrev pub IsDecided : CState → ℕ → ℕ → Type 0
@@ -72,8 +76,8 @@ happens k (reserved upto) = record k { log = k.log ++ ids_item upto ∷ [] }
 happens k (begun tx) = record k { next = tx + 1; active = tx ∷ k.active }
 happens k (decided tx n nodes) = record k { log = k.log ++ decision_item tx n nodes ∷ [] }
 happens k (ended tx) = record k { active = without_active tx k.active }
-happens k lost = record k { active = []; up = false }
-happens k came_up = record k { next = greatest_upto k.log + 1; active = []; up = true }
+happens k lost = stopped_at k.log
+happens k came_up = record (stopped_at k.log) { up = true }
 
 -- the log with this record and the closed gate behind it
 abbrev pub HasRoomFor : CState → LogItem → Type 0
@@ -188,7 +192,3 @@ pub record CTurns (k : CState) (a : Asked) (t : CState) : Type 0 where
 abbrev pub CRun : CState → List Asked → CState → Type 0
 CRun k [] t = k ≡ t
 CRun k (a ∷ more) t = (u : CState) × CTurns k a u × CRun u more t
-
--- a stopped coordinator over a log
-abbrev pub stopped_at : List LogItem → CState
-stopped_at log = record { log = log; next = greatest_upto log + 1; active = []; up = false }

@@ -1,0 +1,5 @@
+pub mod Kinds
+pub mod Words
+pub mod Tokens
+pub mod Spellings
+pub mod Pieces

@@ -42,16 +42,21 @@ abbrev pub commits : Use → Number → List ℕ → ℕ → Reply → Talk Repl
 commits u number [] left r = ending u left r
 commits u number (n ∷ ns) left r = asks n (request.Commit (the_tx u) number) (λ a. commits u number ns (if is_done a then left else with_node left n) r)
 
+-- what an answer other than the one asked for is where a transaction ends: nobody waits there, so a cycle is none of them
+abbrev pub end_refusal : ℕ → Answer → Reply
+end_refusal node (answer.Cycle edges) = reply.Lost (record { 0 = node })
+end_refusal node a = refusal_of node a
+
 -- what follows the answer of Decide
 abbrev pub decided : Owner → Use → (Number → Reply) → Answer → Talk Reply
 decided owner u shown (answer.Decided number) = commits u number (nodes_in u.used) 0 (shown number)
 decided owner u shown (answer.Fault area) = ending u u.used (reply.OutcomeUnknown owner)
-decided owner u shown a = rolling_back u u.used (refusal_of fes1 a)
+decided owner u shown a = rolling_back u u.used (end_refusal fes1 a)
 
 -- what follows the answer of Prepare
 abbrev pub voted : Use → ℕ → ℕ → (Vote → Talk Reply) → Answer → Talk Reply
 voted u prepared n rest (answer.Vote floor) = rest (record { node = record { 0 = n }; floor = floor })
-voted u prepared n rest a = rolling_back u prepared (refusal_of n a)
+voted u prepared n rest a = rolling_back u prepared (end_refusal n a)
 
 abbrev pub voting : Owner → Use → (Number → Reply) → ℕ → List ℕ → List Vote → Talk Reply
 voting owner u shown prepared [] votes = asks fes1 (request.Decide (the_tx u) votes) (decided owner u shown)

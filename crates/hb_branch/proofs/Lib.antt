@@ -1,0 +1,4 @@
+pub mod Ranks
+pub mod Changes
+pub mod Views
+pub mod Merges

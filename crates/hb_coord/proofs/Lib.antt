@@ -1,0 +1,10 @@
+mod Maps
+mod Knowing
+mod Reflecting
+mod Logging
+mod Turning
+mod Recording
+mod Starting
+mod Lawful
+mod Reading
+mod Ascents

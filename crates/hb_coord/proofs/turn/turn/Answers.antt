@@ -1,0 +1,13 @@
+use Rattle.hb_coord.proofs.turn.turn.Goals as goal
+
+pub returns-in-Down-clause-stop : goal.returns-in-Down-clause-stop
+returns-in-Down-clause-stop g c = rw c.in-Down.is c.wake.ensures.stop
+
+pub returns-in-Down-clause-damaged : goal.returns-in-Down-clause-damaged
+returns-in-Down-clause-damaged g c = rw c.in-Down.is c.wake.ensures.damaged
+
+pub returns-in-Up-clause-stop : goal.returns-in-Up-clause-stop
+returns-in-Up-clause-stop g c = rw c.in-Up.is c.work.ensures.stop
+
+pub returns-in-Up-clause-damaged : goal.returns-in-Up-clause-damaged
+returns-in-Up-clause-damaged g c = rw c.in-Up.is c.work.ensures.damaged

@@ -1,0 +1,48 @@
+-- How far a branch is, its vote, and its ends.
+use Rattle.std.specs.Prelude.{◌≡◌, ℕ, ◌<◌, List, Option, Some, None}
+use Rattle.hb_types.specs.declared.answer.Answer.TheVariants as answer
+use Rattle.hb_types.specs.declared.change.Change.{Change}
+use Rattle.hb_types.specs.declared.change.LogItem.{LogItem}
+use Rattle.hb_types.specs.declared.change.Stored.{Stored}
+use Rattle.hb_types.specs.declared.names.Number.{Number}
+use Rattle.hb_types.specs.declared.names.Tx.{Tx}
+use Rattle.hb_types.specs.declared.request.Request.TheVariants as request
+use Rattle.hb_types.specs.Put.{put_all}
+use Rattle.hb_runs.specs.Server.{Branch, SState, IsAlive, IsLive, IsInDoubt, IsUnended}
+use Rattle.hb_runs.specs.ServerEffects.{VoteHasRoom, vote_of}
+use Rattle.hb_engine.specs.declared.ends.Standing.{Standing}
+use Rattle.hb_engine.specs.declared.ends.Standing.TheVariants.{Absent, Live, Voted}
+use Rattle.hb_engine.specs.declared.engine.Engine.{Engine}
+use Rattle.hb_engine.specs.Turned.{StandsFor, Turned}
+
+abbrev pub IsStanding : SState → ℕ → Standing → Type 0
+IsStanding s tx Absent = ¬ (IsUnended s tx)
+IsStanding s tx Live = IsAlive s tx
+IsStanding s tx (Voted floor) = IsInDoubt s tx floor.0 × (¬ (IsAlive s tx))
+
+-- the record of the vote of a live branch, or none where none lives
+abbrev pub IsVote : SState → ℕ → Option LogItem → Type 0
+IsVote s tx None = ¬ (IsAlive s tx)
+IsVote s tx (Some item) = (b : Branch) × IsLive s tx b × (item ≡ vote_of s b)
+
+-- Once the record of a live branch's vote stands, for which there was room: the vote tells this floor, and the branch is in doubt.
+abbrev pub Votes : Engine → Engine → Tx → Number → Type 0
+Votes old new tx floor =
+    (rows : List Stored) (s : SState) (b : Branch) → StandsFor old rows s → IsLive s tx.0 b → VoteHasRoom s b
+    → Turned s (request.Prepare tx) (answer.Vote floor) (λ t. StandsFor new rows t)
+
+-- Once the Commit of a branch in doubt stands, of a number above its floor: the branch has ended, and the rows have its changes.
+abbrev pub Commits : Engine → Engine → Tx → Number → Option (List Change) → Type 0
+Commits old new tx number None = (rows : List Stored) (s : SState) (floor : ℕ) → StandsFor old rows s → IsInDoubt s tx.0 floor → ⊥
+Commits old new tx number (Some changes) =
+    (rows : List Stored) (s : SState) (floor : ℕ) → StandsFor old rows s → IsInDoubt s tx.0 floor → floor < number.0
+    → Turned s (request.Commit tx number) answer.Done (λ t. StandsFor new (put_all rows changes) t)
+
+-- once the Abort of a branch in doubt stands
+abbrev pub Aborts : Engine → Engine → Tx → Type 0
+Aborts old new tx =
+    (rows : List Stored) (s : SState) (floor : ℕ) → StandsFor old rows s → IsInDoubt s tx.0 floor → Turned s (request.Rollback tx) answer.Done (λ t. StandsFor new rows t)
+
+-- a live branch is given up
+abbrev pub Drops : Engine → Engine → Tx → Type 0
+Drops old new tx = (rows : List Stored) (s : SState) → StandsFor old rows s → IsAlive s tx.0 → Turned s (request.Rollback tx) answer.Done (λ t. StandsFor new rows t)

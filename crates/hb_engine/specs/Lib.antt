@@ -1,0 +1,6 @@
+pub mod Ends
+pub mod Fits
+pub mod Climbs
+pub mod Steps
+pub mod Covers
+pub mod Turned

@@ -1,0 +1,61 @@
+// One node.
+ghost use Rattle.std.specs.Prelude.{◌≡◌, ◌≤◌, ◌<◌, ℕ, Bool, List, ◌++◌, ◌∷◌, []};
+ghost use Rattle.hb_edge.specs.Causes.{Rose};
+ghost use Rattle.hb_types.specs.declared.trail.TrailEntry.{TrailEntry};
+ghost use Rattle.hb_types.specs.Calls.{IsRequest, IsAnswer};
+ghost use Rattle.hb_node.specs.Laws.{State, IsOfName, Follows, Enters, Images, entry_of};
+
+use hb_edge::Clock;
+use hb_types::{Answer, NodeName, Request};
+
+/// A server, the front end or the manager: it answers one request after another, and keeps a trail of them.
+pub trait Node {
+    /// Its name by number: 0 is fes1, 1 is ds, 2 to 9 are the back ends, 10 is mgr.
+    ghost named: { Self → ℕ };
+
+    /// The requests that it answered, in order.
+    ghost trail: { Self → List TrailEntry };
+
+    /// Where its disks tell their content: a stop at this moment may leave these images on its log and its area disk.
+    ghost leaves: { Self → ℕ → List ℕ → List ℕ → Type 0 };
+
+    /// How often its disks failed.
+    ghost faults: { Self → ℕ };
+
+    /// What it holds stands for this state.
+    ghost stands: { Self → State → Type 0 };
+
+    /// Its name.
+    fn name(&self) -> NodeName
+        ensures { result.0 ≡ named self.now };
+
+    /// Answers a request.
+    fn ask(&mut self, clock: &mut Clock, request: Request) -> Answer
+        requires { IsRequest request }
+        ensures well_formed { IsAnswer result }
+        ensures name { named self.new ≡ named self.old }
+        ensures entered { Enters (trail self.old) (trail self.new) (entry_of request result clock.old clock.new) }
+
+        // Where the trail was a run from a state to where the node stood, it is one still.
+        ensures law { (origin : State) → Follows (stands self.old) origin (trail self.old) → Follows (stands self.new) origin (trail self.new) }
+
+        // What its disks may hold since the call began is what a run of these calls makes of the log; before it, what it was.
+        ensures images { (origin : State) → Follows (stands self.old) origin (trail self.old)
+            → Images origin (trail self.old) (trail self.new) (entry_of request result clock.old clock.new) (leaves self.new) }
+        ensures before { (m : ℕ) (log area : List ℕ) → m < clock.old → leaves self.new m log area → leaves self.old m log area }
+
+        ensures fault { (area : Bool) → result ≡ Answer.Fault area → Rose (faults self.old) (faults self.new) }
+        ensures count { faults self.old ≤ faults self.new }
+        ensures clock { clock.old ≤ clock.new };
+
+    /// Lets the kth device call from now on its log or its area disk fail, and all after it.
+    fn arm(&mut self, area: bool, k: u32)
+        ensures name { named self.new ≡ named self.old }
+        ensures trail { trail self.new ≡ trail self.old }
+        ensures stands { (s : State) → stands self.old s → stands self.new s }
+        ensures leaves { (m : ℕ) (log area : List ℕ) → leaves self.new m log area → leaves self.old m log area }
+        ensures count { faults self.old ≤ faults self.new };
+
+    /// A node stands for states of its name alone.
+    ghost of_name: { (node : Self) (s : State) → stands node s → IsOfName (named node) s };
+}

@@ -1,0 +1,8 @@
+//! Sets of nodes: whether a node is in one, one with a node more, and its nodes in their order.
+#![tactic(auto)]
+
+mod sets;
+#[cfg(test)]
+mod tests;
+
+pub use sets::{first_from, has, with};

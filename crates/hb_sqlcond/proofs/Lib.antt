@@ -1,0 +1,10 @@
+pub mod Leading
+pub mod ExprComplete
+pub mod ExprSound
+pub mod ExprEnds
+pub mod ExprTakes
+pub mod PredComplete
+pub mod PredSound
+pub mod PredFinish
+pub mod PredEnds
+pub mod PredTakes

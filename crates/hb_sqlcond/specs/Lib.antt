@@ -1,0 +1,5 @@
+pub mod Grammar
+pub mod Operands
+pub mod ExprSteps
+pub mod PredSteps
+pub mod Runs

@@ -1,0 +1,5 @@
+pub mod ExactLevels
+pub mod ExactTruths
+pub mod Levels
+pub mod Limits
+pub mod Typed

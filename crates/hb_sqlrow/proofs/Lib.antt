@@ -1,0 +1,5 @@
+pub mod Assigning
+pub mod Levels
+pub mod NarrowRows
+pub mod Steps
+pub mod Totals
