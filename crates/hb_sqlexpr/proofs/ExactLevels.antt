@@ -1,6 +1,5 @@
 -- Values without a limit, level by level, and that they are the values within the limit where no number is outside it.
-use Rattle.std.proofs.Common.{◌≡◌, ℕ, ℤ, pos, ◌+ℤ◌, ◌-ℤ◌, ◌*ℤ◌, List, [], ◌∷◌, Some, None, refl, sym, ap, ◌∙◌, subst}
-use Rattle.std.specs.Prelude.{Bool, not, ◌&&◌, ◌||◌, Option, option_map}
+use Rattle.std.proofs.Common.{◌≡◌, ℕ, ℤ, pos, ◌+ℤ◌, ◌-ℤ◌, ◌*ℤ◌, List, [], ◌∷◌, Some, refl, sym, ap, ◌∙◌, subst}
 use Rattle.hb_types.specs.declared.value.Value.{Value}
 use Rattle.hb_types.specs.declared.value.Value.TheVariants as value
 use Rattle.hb_types.specs.declared.value.Column.{Column}
@@ -8,8 +7,8 @@ use Rattle.hb_model.specs.declared.expression.Expr.{Expr, roll-Expr, map-Expr, i
 use Rattle.hb_model.specs.declared.expression.Expr.TheOpen.{Expr-F}
 use Rattle.hb_model.specs.declared.expression.Expr.TheVariants as expr
 use Rattle.hb_model.specs.declared.expression.Expr.TheVariants.{outs-Int, outs-Text, outs-Name, outs-Neg, outs-Add, outs-Sub, outs-Mul, rolls-Int, rolls-Text, rolls-Name, rolls-Neg, rolls-Add, rolls-Sub, rolls-Mul}
-use Rattle.hb_model.specs.Values.{within, both, arithmetic, value_in, value_of}
-use Rattle.hb_sqlexpr.specs.Exact.{Exact, exactly, numbers_of, computed, exact_of, limited}
+use Rattle.hb_model.specs.Values.{both, arithmetic, value_in, value_of}
+use Rattle.hb_sqlexpr.specs.Exact.{computed, exact_of, limited}
 use Rattle.hb_sqlexpr.proofs.Levels.{value_of-Int, value_of-Text, value_of-Name, value_of-Neg, value_of-Add, value_of-Sub, value_of-Mul}
 use Rattle.hb_sqlexpr.proofs.Limits.{on_values, on_literal}
 

@@ -1,6 +1,6 @@
 -- Truths without a limit, level by level, and that they are the truths within the limit where no number is outside it.
-use Rattle.std.proofs.Common.{◌≡◌, ℕ, List, Some, None, refl, sym, ap, ◌∙◌, subst}
-use Rattle.std.specs.Prelude.{Bool, not, ◌&&◌, ◌||◌, Option, option_map}
+use Rattle.std.proofs.Common.{◌≡◌, List, Some, refl, sym, ap, ◌∙◌, subst}
+use Rattle.std.specs.Prelude.{not, ◌&&◌, ◌||◌, option_map}
 use Rattle.hb_types.specs.declared.value.Value.{Value}
 use Rattle.hb_types.specs.declared.value.Column.{Column}
 use Rattle.hb_model.specs.declared.expression.Expr.{Expr}
@@ -10,25 +10,25 @@ use Rattle.hb_model.specs.declared.condition.Pred.TheOpen.{Pred-F}
 use Rattle.hb_model.specs.declared.condition.Pred.TheVariants as pred
 use Rattle.hb_model.specs.declared.condition.Pred.TheVariants.{outs-Test, outs-Not, outs-And, outs-Or, rolls-Test, rolls-Not, rolls-And, rolls-Or}
 use Rattle.hb_model.specs.Values.{both, agrees, value_cmp, holds_at}
-use Rattle.hb_sqlexpr.specs.Exact.{Exact, joined_with, exact_of, exact_truth, limited}
+use Rattle.hb_sqlexpr.specs.Exact.{joined_with, exact_of, exact_truth, limited}
 use Rattle.hb_sqlexpr.proofs.Levels.{holds_at-Test, holds_at-Not, holds_at-And, holds_at-Or}
 use Rattle.hb_sqlexpr.proofs.Limits.{on_parts, on_negation}
 use Rattle.hb_sqlexpr.proofs.ExactLevels.{value_limited}
 
 module _ (columns : List Column) (row : List Value) where
-  exact_truth-Test : (how : Op) (a b : Expr) → exact_truth columns row (pred.Test how a b) ≡ joined_with (λ x y. agrees how (value_cmp x y)) (exact_of columns row a) (exact_of columns row b)
+  pub exact_truth-Test : (how : Op) (a b : Expr) → exact_truth columns row (pred.Test how a b) ≡ joined_with (λ x y. agrees how (value_cmp x y)) (exact_of columns row a) (exact_of columns row b)
   unfolding exact_truth
   exact_truth-Test how a b = rw (fold_out-Pred, outs-Test) refl
 
-  exact_truth-Not : (p : Pred) → exact_truth columns row (pred.Not p) ≡ record { result = option_map not (exact_truth columns row p).result; numbers = (exact_truth columns row p).numbers }
+  pub exact_truth-Not : (p : Pred) → exact_truth columns row (pred.Not p) ≡ record { result = option_map not (exact_truth columns row p).result; numbers = (exact_truth columns row p).numbers }
   unfolding exact_truth
   exact_truth-Not p = rw (fold_out-Pred, outs-Not) refl
 
-  exact_truth-And : (p q : Pred) → exact_truth columns row (pred.And p q) ≡ joined_with ◌&&◌ (exact_truth columns row p) (exact_truth columns row q)
+  pub exact_truth-And : (p q : Pred) → exact_truth columns row (pred.And p q) ≡ joined_with ◌&&◌ (exact_truth columns row p) (exact_truth columns row q)
   unfolding exact_truth
   exact_truth-And p q = rw (fold_out-Pred, outs-And) refl
 
-  exact_truth-Or : (p q : Pred) → exact_truth columns row (pred.Or p q) ≡ joined_with ◌||◌ (exact_truth columns row p) (exact_truth columns row q)
+  pub exact_truth-Or : (p q : Pred) → exact_truth columns row (pred.Or p q) ≡ joined_with ◌||◌ (exact_truth columns row p) (exact_truth columns row q)
   unfolding exact_truth
   exact_truth-Or p q = rw (fold_out-Pred, outs-Or) refl
 

@@ -1,6 +1,6 @@
 -- The value of an expression and the truth of a condition, level by level.
-use Rattle.std.proofs.Common.{◌≡◌, ℕ, ℤ, pos, ◌+ℤ◌, ◌-ℤ◌, ◌*ℤ◌, List, Some, None, refl}
-use Rattle.std.specs.Prelude.{Bool, not, ◌&&◌, ◌||◌, Option, option_map}
+use Rattle.std.proofs.Common.{◌≡◌, ℕ, ℤ, pos, ◌+ℤ◌, ◌-ℤ◌, ◌*ℤ◌, List, Some, refl}
+use Rattle.std.specs.Prelude.{not, ◌&&◌, ◌||◌, option_map}
 use Rattle.hb_types.specs.declared.value.Value.{Value}
 use Rattle.hb_types.specs.declared.value.Value.TheVariants as value
 use Rattle.hb_types.specs.declared.value.Column.{Column}

@@ -3,3 +3,4 @@ pub mod ExactTruths
 pub mod Levels
 pub mod Limits
 pub mod Typed
+pub mod TypedTruths

@@ -1,5 +1,5 @@
 -- Where the row fits and the types agree, an expression has a value without a limit, of its kind.
-use Rattle.std.proofs.Common.{◌≡◌, ℕ, zero, suc, ◌<◌, ◌+◌, ℤ, pos, ◌+ℤ◌, ◌-ℤ◌, ◌*ℤ◌, Bool, true, false, not, ◌&&◌, cond, List, [], ◌∷◌, ◌++◌, length, Some, None, refl, sym, ap, ◌∙◌, subst, arith}
+use Rattle.std.proofs.Common.{◌≡◌, ℕ, suc, ◌<◌, ◌+◌, ℤ, pos, ◌+ℤ◌, ◌-ℤ◌, ◌*ℤ◌, Bool, true, false, not, cond, List, [], ◌∷◌, length, Some, None, refl, sym, ap, ◌∙◌, subst, arith}
 use Rattle.std.specs.Prelude.{◌≢◌, ◌==◌, if◌then◌else◌, Option, option_map, option_and_then, slice_get, position}
 use Rattle.std.specs.List.{find, prefix_len, list_all}
 use Rattle.std.specs.Str.{bytes_eq}
@@ -14,8 +14,8 @@ use Rattle.hb_model.specs.declared.expression.Expr.TheVariants as expr
 use Rattle.hb_model.specs.declared.expression.Expr.TheVariants.{outs-Int, outs-Text, outs-Name, outs-Neg, outs-Add, outs-Sub, outs-Mul, rolls-Int, rolls-Text, rolls-Name, rolls-Neg, rolls-Add, rolls-Sub, rolls-Mul}
 use Rattle.hb_model.specs.Kinds.{Kind, number, letters, kind_of_column, kind_of_value, kind_of, numbers}
 use Rattle.hb_model.specs.Valid.{Fits, FitsAll}
-use Rattle.hb_model.specs.Values.{both, value_in, value_of}
-use Rattle.hb_sqlexpr.specs.Exact.{Exact, exactly, exact_of, limited}
+use Rattle.hb_model.specs.Values.{both, value_of}
+use Rattle.hb_sqlexpr.specs.Exact.{exactly, exact_of}
 use Rattle.hb_sqlexpr.proofs.ExactLevels.{exact_of-Int, exact_of-Text, exact_of-Name, exact_of-Neg, exact_of-Add, exact_of-Sub, exact_of-Mul, value_limited}
 
 -- there is a value, of this kind

@@ -1,6 +1,5 @@
 -- The key of a point statement, level by level.
-use Rattle.std.proofs.Common.{◌≡◌, ℕ, ℤ, List, Some, None, refl}
-use Rattle.std.specs.Prelude.{Option}
+use Rattle.std.proofs.Common.{◌≡◌, ℕ, List, None, refl}
 use Rattle.std.specs.Option.{option_or}
 use Rattle.hb_model.specs.declared.expression.Expr.{Expr, out-Expr}
 use Rattle.hb_model.specs.declared.expression.Expr.TheVariants.{outs-Int, outs-Text, outs-Name, outs-Neg, outs-Add, outs-Sub, outs-Mul}

@@ -1,5 +1,5 @@
 -- Rows whose numbers are within INTEGER.
-use Rattle.std.proofs.Common.{ℕ, suc, cond, arith, length, List, [], ◌∷◌, filter, Bool, true, false, All}
+use Rattle.std.proofs.Common.{suc, cond, arith, List, [], ◌∷◌, filter, Bool, true, false, All}
 use Rattle.std.specs.Prelude.{Option}
 use Rattle.hb_types.specs.declared.value.Value.{Value}
 use Rattle.hb_types.specs.declared.value.Value.TheVariants as value

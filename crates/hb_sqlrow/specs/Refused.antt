@@ -1,6 +1,5 @@
 -- The replies that a refused assignment stands for.
-use Rattle.std.specs.Prelude.{◌≡◌, List, Option, Some}
-use Rattle.hb_types.specs.declared.value.Value.{Value}
+use Rattle.std.specs.Prelude.{◌≡◌, Option, Some}
 use Rattle.hb_model.specs.declared.reply.Reply.{Reply}
 use Rattle.hb_model.specs.declared.reply.Reply.TheVariants as reply
 use Rattle.hb_sqlrow.specs.declared.fault.SetFault.{SetFault}

@@ -1,5 +1,4 @@
-use Rattle.std.proofs.Common.{◌≡◌, None, take}
-use Rattle.hb_model.specs.Rows.{assigned, assigning_refusal}
+use Rattle.std.proofs.Common.{take}
 use Rattle.hb_sqlrow.proofs.Steps.{Assigns}
 use Rattle.hb_sqlrow.proofs.assignments.assigned.Given as goal
 

@@ -1,6 +1,4 @@
-use Rattle.std.proofs.Common.{◌≡◌, false, ◌&&◌, map, is_none, take, filter}
-use Rattle.std.specs.List.{list_any}
-use Rattle.hb_model.specs.Rows.{truth, considers, chooses}
+use Rattle.std.proofs.Common.{map, take}
 use Rattle.hb_sqlrow.proofs.Steps.{Seen}
 use Rattle.hb_sqlrow.proofs.choosing.chosen.Given as goal
 

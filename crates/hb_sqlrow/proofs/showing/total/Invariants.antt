@@ -1,4 +1,4 @@
-use Rattle.std.proofs.Common.{ℕ, ◌*◌, pos, map, take}
+use Rattle.std.proofs.Common.{map, take}
 use Rattle.hb_model.specs.Rows.{total}
 use Rattle.hb_sqlrow.proofs.Steps.{IsTotal}
 use Rattle.hb_sqlrow.proofs.showing.total.Given as goal

@@ -1,0 +1,4 @@
+pub mod ColumnSteps
+pub mod TableSteps
+pub mod Tells
+pub mod ValuesBack
