@@ -1,0 +1,12 @@
+mod Beside
+mod Keys
+mod Counts
+mod Decoding
+mod Encoded
+mod HeaderLaws
+mod Keeping
+mod Listed
+mod Sealing
+mod SlotRows
+mod Windows
+mod Under

@@ -1,0 +1,20 @@
+//! A store whose points are images of all rows.
+//!
+//! A row is found in the logarithm of the rows; a list costs its rows and that logarithm. Room for a change is a slot in the
+//! map of rows, so that a change takes no memory.
+#![tactic(auto)]
+
+mod decode;
+mod device;
+mod encode;
+mod header;
+mod listing;
+mod map;
+mod place;
+mod rooms;
+mod slots;
+#[cfg(test)]
+mod tests;
+mod valid;
+
+pub use slots::Slots;
