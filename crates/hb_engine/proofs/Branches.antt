@@ -1,11 +1,11 @@
 -- The branches of one transaction among all, and what each effect makes of them.
-use Rattle.std.proofs.Common.{◌≡◌, ◌≢◌, ℕ, Bool, true, false, cond, refl, sym, ◌∙◌, ap, subst, List, [], ◌∷◌, ◌++◌, map, inl, inr, if◌then◌else◌, ◌⊎◌}
+use Rattle.std.proofs.Common.{◌≡◌, ◌≢◌, ℕ, refl, sym, ◌∙◌, ap, subst, List, [], ◌∷◌, ◌++◌, map, inl, inr, if◌then◌else◌, ◌⊎◌}
 use Rattle.std.specs.Prelude.{◌==◌}
-use Rattle.std.proofs.lemmas.Bool.{eqb-true, eqb-false, eq-eqb, ne_eqb, true≢false, false≢true}
+use Rattle.std.proofs.lemmas.Bool.{eqb-true, eqb-false, eq-eqb, ne_eqb}
 use Rattle.hb_types.specs.Lists.{Has, IsIn}
 use Rattle.hb_types.proofs.PutLaws.{by_test}
 use Rattle.hb_disks.specs.Redo.{Prepared, without_tx}
-use Rattle.hb_runs.specs.Server.{Branch, SState, now, as_branch, unended, IsLive, IsAlive, IsInDoubt, IsUnended}
+use Rattle.hb_runs.specs.Server.{Branch, SState, now, as_branch, IsLive, IsAlive, IsUnended}
 use Rattle.hb_runs.specs.ServerEffects.{without_live, changing}
 use Rattle.hb_engine.specs.Fits.{live_of, doubts_of}
 

@@ -1,8 +1,8 @@
 -- A ladder of locks, as effects of the state.
-use Rattle.std.proofs.Common.{◌≡◌, ◌≢◌, ℕ, Bool, true, false, cond, not, refl, sym, ◌∙◌, ap, subst, List, [], ◌∷◌, ◌++◌, map, inl, inr, if◌then◌else◌, ◌⊎◌, Option, Some, None}
-use Rattle.std.specs.Prelude.{◌&&◌, ◌||◌, ◌==◌, IsTrue, IsSomeAnd}
+use Rattle.std.proofs.Common.{◌≡◌, ◌≢◌, ℕ, Bool, true, false, not, refl, sym, ◌∙◌, ap, subst, List, [], ◌∷◌, ◌++◌, map, inl, inr, if◌then◌else◌, ◌⊎◌, Option, Some, None}
+use Rattle.std.specs.Prelude.{◌&&◌, ◌||◌, IsTrue, IsSomeAnd}
 use Rattle.std.specs.Option.{is_some}
-use Rattle.std.proofs.lemmas.Bool.{and_parts, and_from, true≢false, false≢true, eq-eqb}
+use Rattle.std.proofs.lemmas.Bool.{and_parts, true≢false, false≢true}
 use Rattle.hb_types.specs.declared.answer.Answer.{Answer}
 use Rattle.hb_types.specs.declared.answer.Answer.TheVariants as answer
 use Rattle.hb_types.specs.declared.change.Stored.{Stored}
@@ -22,20 +22,19 @@ use Rattle.hb_types.proofs.Ascending.{Each-in}
 use Rattle.hb_types.proofs.PutLaws.{by_test}
 use Rattle.hb_disks.specs.Redo.{Prepared}
 use Rattle.hb_disks.specs.LogRules.{Agree, LocksAgree, IsHeld}
-use Rattle.hb_locks.specs.Locks.{Locks, HoldsAncestors, IsCompatible, Changes, blockers, granted as granting_to, held_at, holders_at, lock_cmp, mode_at, mode_of, wanted_of}
+use Rattle.hb_locks.specs.Locks.{Locks, blockers, granted as granting_to, held_at, holders_at, lock_cmp, mode_at, mode_of, wanted_of}
 use Rattle.hb_locks.specs.Takes.{wanted_at}
-use Rattle.hb_locks.proofs.Order.{same_path-eq, same_path-refl}
-use Rattle.hb_locks.proofs.Lists.{compatible-flip}
-use Rattle.hb_runs.specs.Server.{Branch, SState, now, as_branch, unended, wanted, granting, AllowsLock, IsLive, IsAlive}
-use Rattle.hb_runs.specs.ServerEffects.{Effect, granted, grant, changing, happens, Allowed, Steps, after_all}
-use Rattle.hb_runs.specs.ServerCauses.{grants, AreHolders, IsBlocked}
+use Rattle.hb_locks.proofs.Order.{same_path-eq}
+use Rattle.hb_runs.specs.Server.{Branch, SState, now, as_branch, unended, wanted, granting, AllowsLock, IsAlive}
+use Rattle.hb_runs.specs.ServerEffects.{granted, grant, changing, happens, Allowed, Steps, after_all}
+use Rattle.hb_runs.specs.ServerCauses.{grants, AreHolders}
 use Rattle.hb_runs.specs.ServerAnswers.{RightIn}
 use Rattle.hb_engine.specs.Climbs.{Grants, Rung, Climbs}
 use Rattle.hb_engine.specs.Covers.{is_as_strong}
 use Rattle.hb_engine.specs.Fits.{live_of, doubts_of, first_locks, live_in_slot, SlotFits, VoteFits, TxFits, Slots, slot_at, tx_of, Stands}
 use Rattle.hb_engine.specs.Turned.{Turned}
 use Rattle.hb_engine.specs.declared.slot.Slot.{Slot}
-use Rattle.hb_engine.proofs.Branches.{by_same, in_live_of, in_doubts_of, of_live_of, of_doubts_of, the_one, the_live, alive_of, live_of-changing_same, live_of-changing_other, has_in, in_has}
+use Rattle.hb_engine.proofs.Branches.{by_same, in_live_of, in_doubts_of, of_live_of, of_doubts_of, the_one, the_live, alive_of, live_of-changing_same, live_of-changing_other, in_has}
 use Rattle.hb_engine.proofs.Covering.{held_from, mode_at-in, mode_at-found, same_path-sym}
 use Rattle.hb_engine.proofs.Granting.{mode_of-granted_same, mode_of-granted_other, free_mode, in_the_way, blocks_other, own_mode, in_blockers, granting_ascends, granting_other, granting_same, joined_is}
 use Rattle.hb_engine.proofs.Effects.{moved}

@@ -1,11 +1,11 @@
 -- Which lock a list by ascending path has on a path, and what covers it.
-use Rattle.std.proofs.Common.{◌≡◌, ◌≢◌, ℕ, Bool, true, false, cond, refl, sym, ◌∙◌, ap, subst, List, [], ◌∷◌, ◌++◌, inl, inr, if◌then◌else◌, ◌⊎◌, Option, Some, None}
+use Rattle.std.proofs.Common.{◌≡◌, Bool, true, false, cond, refl, sym, ◌∙◌, ap, subst, List, [], ◌∷◌, inl, inr, Option, Some, None}
 use Rattle.std.specs.Prelude.{◌&&◌, ◌||◌, IsTrue}
 use Rattle.std.specs.List.{find, list_any}
 use Rattle.std.specs.Option.{option_map}
-use Rattle.std.specs.Ordering.{is_lt, is_eq}
+use Rattle.std.specs.Ordering.{is_eq}
 use Rattle.std.specs.declared.cmp.Ordering.{Ordering}
-use Rattle.std.specs.declared.cmp.Ordering.TheVariants.{Less, Equal, Greater}
+use Rattle.std.specs.declared.cmp.Ordering.TheVariants.{Less, Equal}
 use Rattle.std.specs.Cmp.{IsTotalOrder}
 use Rattle.std.proofs.lemmas.Bool.{and_parts, and_from, true≢false, false≢true, or_cases}
 use Rattle.hb_types.specs.declared.lock.Held.{Held}
@@ -13,19 +13,17 @@ use Rattle.hb_types.specs.declared.lock.Mode.{Mode}
 use Rattle.hb_types.specs.declared.names.Tx.{Tx}
 use Rattle.hb_types.specs.declared.places.Path.{Path}
 use Rattle.hb_types.specs.declared.places.Path.TheVariants.{Whole, Group, Key}
-use Rattle.hb_types.specs.Ladders.{upward}
 use Rattle.hb_types.specs.Lists.{Ascends, Each, Has, IsIn}
 use Rattle.hb_types.specs.Modes.{covers}
 use Rattle.hb_types.specs.Places.{path_cmp, same_path}
 use Rattle.hb_types.proofs.Ascending.{Ascends-tail, Ascends-first}
 use Rattle.hb_types.proofs.PutLaws.{by_test}
 use Rattle.hb_disks.specs.LogRules.{IsHeld}
-use Rattle.hb_runs.specs.Server.{Branch, HoldsOne}
 use Rattle.hb_locks.specs.Locks.{Locks, held_at, lock_cmp, mode_at}
 use Rattle.hb_locks.proofs.Order.{order, order_is, same_path-eq, same_path-refl}
 use Rattle.hb_types.specs.contracts.places.PathOrd.TheImpl.Laws.{total-law}
 use Rattle.std.proofs.lemmas.Cmp.{on_total}
-use Rattle.hb_engine.specs.Covers.{is_as_strong, is_covered_at, is_covered}
+use Rattle.hb_engine.specs.Covers.{is_as_strong, is_covered_at}
 
 order-cmp : (p q : Path) → order p q ≡ path_cmp p q
 order-cmp (Whole s) (Whole t) = refl

@@ -1,8 +1,8 @@
 -- What the engine holds goes on standing for the state behind an effect.
-use Rattle.std.proofs.Common.{◌≡◌, ◌≢◌, ℕ, Bool, true, false, refl, sym, ◌∙◌, ap, subst, List, [], ◌∷◌, ◌++◌, map, Option, Some, None, if◌then◌else◌, inl, inr}
+use Rattle.std.proofs.Common.{◌≡◌, ℕ, refl, sym, ◌∙◌, ap, subst, List, [], ◌∷◌, ◌++◌, map, Option, Some, None, if◌then◌else◌}
 use Rattle.std.specs.Prelude.{◌==◌}
 use Rattle.std.specs.Option.{option_map}
-use Rattle.std.proofs.lemmas.Bool.{eqb-true, eqb-false, eq-eqb, ne_eqb}
+use Rattle.std.proofs.lemmas.Bool.{eq-eqb, ne_eqb}
 use Rattle.hb_types.specs.declared.change.Change.{Change}
 use Rattle.hb_types.specs.declared.change.Stored.{Stored}
 use Rattle.hb_types.specs.declared.lock.Mode.{Mode}
@@ -15,12 +15,12 @@ use Rattle.hb_branch.specs.Overlays.{putting}
 use Rattle.hb_disks.specs.Redo.{Prepared}
 use Rattle.hb_locks.specs.Locks.{Locks, held_at, lock_cmp, mode_at}
 use Rattle.hb_types.specs.Lists.{Ascends}
-use Rattle.hb_runs.specs.Server.{Branch, SState, now, IsLive, IsAlive}
-use Rattle.hb_runs.specs.ServerEffects.{happens, enlisted, written as wrote, dropped, write, without_live, changing}
+use Rattle.hb_runs.specs.Server.{Branch, SState, now}
+use Rattle.hb_runs.specs.ServerEffects.{happens, enlisted, written as wrote, write, changing}
 use Rattle.hb_engine.specs.Fits.{live_of, doubts_of, first_locks, SlotFits, VoteFits, TxFits, Slots, slot_at, tx_of, Stands}
 use Rattle.hb_engine.specs.Steps.{fresh, written}
 use Rattle.hb_engine.specs.declared.slot.Slot.{Slot}
-use Rattle.hb_engine.proofs.Branches.{by_same, live_of-more, append_none, live_of-changing_same, live_of-changing_other, live_of-without_same, live_of-without_other, live_in, live_out}
+use Rattle.hb_engine.proofs.Branches.{by_same, live_of-more, append_none, live_of-changing_same, live_of-changing_other, live_in, live_out}
 
 -- the same of equal things
 pub moved : (slot slot' : Option Slot) (live live' : List Branch) (doubts doubts' : List Prepared) (held held' : Path → Option Mode)

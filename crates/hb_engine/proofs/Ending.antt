@@ -1,16 +1,15 @@
 -- A vote and the ends of a branch, as effects of the state.
-use Rattle.std.proofs.Common.{◌≡◌, ◌≢◌, ℕ, max, Bool, true, false, cond, not, refl, sym, ◌∙◌, ap, subst, List, [], ◌∷◌, ◌++◌, filter, inl, inr, if◌then◌else◌, Option, Some, None}
+use Rattle.std.proofs.Common.{◌≡◌, ◌≢◌, ℕ, max, Bool, true, false, cond, not, refl, sym, ◌∙◌, ap, subst, List, [], ◌∷◌, ◌++◌, inl, inr, if◌then◌else◌, Option, Some, None}
 use Rattle.std.specs.Prelude.{◌==◌}
 use Rattle.std.specs.List.{find}
 use Rattle.std.specs.Option.{option_map}
-use Rattle.std.proofs.lemmas.Bool.{eqb-true, eqb-false, eq-eqb, ne_eqb}
+use Rattle.std.proofs.lemmas.Bool.{eqb-true, eq-eqb, ne_eqb}
 use Rattle.hb_types.specs.declared.change.Change.{Change}
 use Rattle.hb_types.specs.declared.change.LogItem.{LogItem}
 use Rattle.hb_types.specs.declared.change.LogItem.TheVariants as item
 use Rattle.hb_types.specs.declared.change.Stored.{Stored}
 use Rattle.hb_types.specs.declared.lock.Held.{Held}
 use Rattle.hb_types.specs.declared.lock.Holder.{Holder}
-use Rattle.hb_types.specs.declared.lock.Mode.{Mode}
 use Rattle.hb_types.specs.declared.names.Number.{Number}
 use Rattle.hb_types.specs.declared.names.Tx.{Tx}
 use Rattle.hb_types.specs.declared.places.Path.{Path}
@@ -27,7 +26,7 @@ use Rattle.hb_runs.specs.ServerEffects.{prepared, committed, aborted, dropped, h
 use Rattle.hb_engine.specs.Fits.{live_of, doubts_of, first_locks, SlotFits, VoteFits, TxFits, Slots, slot_at, tx_of, Stands}
 use Rattle.hb_engine.specs.Steps.{voted}
 use Rattle.hb_engine.specs.declared.slot.Slot.{Slot}
-use Rattle.hb_engine.proofs.Branches.{by_same, live_of-without_same, live_of-without_other, doubts_of-more, doubts_of-without_same, doubts_of-without_other, doubt_in, doubt_out, live_in, append_none}
+use Rattle.hb_engine.proofs.Branches.{by_same, live_of-without_same, live_of-without_other, doubts_of-more, doubts_of-without_same, doubts_of-without_other, doubt_in, doubt_out, append_none}
 use Rattle.hb_engine.proofs.Effects.{moved}
 use Rattle.std.specs.Prelude.{◌<◌}
 use Rattle.hb_types.specs.declared.answer.Answer.{Answer}

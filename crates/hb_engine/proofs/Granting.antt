@@ -1,6 +1,6 @@
 -- A lock more: what is held on each path then, and who stands in its way.
-use Rattle.std.proofs.Common.{◌≡◌, ◌≢◌, ℕ, Bool, true, false, cond, not, refl, sym, ◌∙◌, ap, subst, List, [], ◌∷◌, ◌++◌, filter, inl, inr, if◌then◌else◌, ◌⊎◌, Option, Some, None}
-use Rattle.std.specs.Prelude.{◌&&◌, ◌||◌, ◌==◌, IsTrue, IsSomeAnd}
+use Rattle.std.proofs.Common.{◌≡◌, ◌≢◌, Bool, true, false, cond, not, refl, sym, ◌∙◌, ap, subst, List, [], ◌∷◌, inl, inr, if◌then◌else◌, Option, Some, None}
+use Rattle.std.specs.Prelude.{◌==◌}
 use Rattle.std.specs.List.{find, list_all}
 use Rattle.std.specs.Option.{option_map}
 use Rattle.std.specs.Ordering.{is_lt, ordering_reverse}
@@ -13,16 +13,16 @@ use Rattle.hb_types.specs.declared.lock.Mode.{Mode}
 use Rattle.hb_types.specs.declared.lock.Mode.TheVariants.{IS, IX, S, SIX, X}
 use Rattle.hb_types.specs.declared.names.Tx.{Tx}
 use Rattle.hb_types.specs.declared.places.Path.{Path}
-use Rattle.hb_types.specs.Lists.{Ascends, Each, Has, IsIn}
+use Rattle.hb_types.specs.Lists.{Ascends, Each, IsIn}
 use Rattle.hb_types.specs.Modes.{compatible, covers, join}
 use Rattle.hb_types.specs.Places.{path_cmp, same_path, intention}
 use Rattle.hb_types.proofs.Ascending.{Ascends-tail, Ascends-first}
 use Rattle.hb_types.proofs.PutLaws.{by_test}
 use Rattle.hb_runs.specs.Server.{joined_mode, without_path, with_lock, wanted, granting}
-use Rattle.hb_locks.specs.Locks.{Locks, blocks, blockers, granted, is_of, lock_cmp, mode_at, mode_of, stands_beside, are_compatible, wanted_of}
-use Rattle.hb_locks.proofs.Order.{same_path-eq, same_path-refl}
+use Rattle.hb_locks.specs.Locks.{blocks, blockers, granted, is_of, lock_cmp, mode_at, mode_of, stands_beside, are_compatible, wanted_of}
+use Rattle.hb_locks.proofs.Order.{same_path-eq}
 use Rattle.hb_locks.proofs.Lists.{compatible-flip}
-use Rattle.hb_engine.proofs.Covering.{lock_total, path_total, path_apart, path_apart_back, path_equal, same_path-sym, mode_at-in}
+use Rattle.hb_engine.proofs.Covering.{lock_total, path_total, path_apart_back, path_equal, same_path-sym}
 
 -- ---- modes
 

@@ -6,3 +6,4 @@ pub mod Turning
 pub mod Rungs
 pub mod Climbing
 pub mod Ending
+pub mod Counting

@@ -1,5 +1,5 @@
 -- One lock of a ladder, and the ladder with one more.
-use Rattle.std.proofs.Common.{◌≡◌, ◌≢◌, Bool, true, false, refl, sym, ◌∙◌, ap, subst, List, [], ◌∷◌, ◌++◌, inl, inr, if◌then◌else◌, Option, Some, None}
+use Rattle.std.proofs.Common.{◌≡◌, ◌≢◌, true, refl, sym, ◌∙◌, ap, subst, List, [], ◌∷◌, ◌++◌, inl, inr, if◌then◌else◌, Option, Some}
 use Rattle.std.specs.Prelude.{IsSomeAnd}
 use Rattle.hb_types.specs.declared.answer.Answer.{Answer}
 use Rattle.hb_types.specs.declared.answer.Answer.TheVariants as answer
@@ -13,7 +13,7 @@ use Rattle.hb_types.specs.declared.places.Place.{Place}
 use Rattle.hb_types.specs.Ladders.{ladder}
 use Rattle.hb_types.specs.Modes.{covers}
 use Rattle.hb_types.specs.Places.{intention}
-use Rattle.hb_locks.specs.Locks.{Locks, HoldsAncestors, Changes, granted, held_at, holders_at, mode_of, wanted_of}
+use Rattle.hb_locks.specs.Locks.{Locks, HoldsAncestors, Changes, granted, held_at, holders_at, mode_of}
 use Rattle.hb_locks.specs.Takes.{wanted_at}
 use Rattle.hb_locks.proofs.Order.{same_path-refl}
 use Rattle.hb_engine.specs.Climbs.{Rung, Climbs, HasLadder}

@@ -1,8 +1,7 @@
 -- The turns of single requests.
-use Rattle.std.proofs.Common.{◌≡◌, ◌≢◌, ℕ, Bool, true, false, refl, sym, ◌∙◌, ap, subst, List, [], ◌∷◌, Option, Some, None, inl, inr, if◌then◌else◌}
+use Rattle.std.proofs.Common.{◌≡◌, ℕ, Bool, true, false, refl, sym, ◌∙◌, ap, subst, List, [], ◌∷◌, Option, Some, None, inl, inr, if◌then◌else◌}
 use Rattle.std.specs.Option.{is_some, option_map}
 use Rattle.std.specs.Prelude.{◌==◌}
-use Rattle.std.specs.List.{list_any}
 use Rattle.std.proofs.lemmas.Bool.{true≢false, false≢true}
 use Rattle.hb_types.specs.declared.change.Stored.{Stored}
 use Rattle.hb_types.specs.declared.change.Change.{Change}
@@ -19,20 +18,18 @@ use Rattle.hb_types.specs.declared.request.Request.TheVariants as request
 use Rattle.hb_types.specs.Ladders.{upward}
 use Rattle.hb_types.specs.Lists.{Ascends, IsIn}
 use Rattle.hb_disks.specs.Redo.{Prepared}
-use Rattle.hb_disks.specs.LogRules.{IsHeld}
 use Rattle.hb_locks.specs.Locks.{Locks, held_at, lock_cmp, mode_at}
-use Rattle.hb_runs.specs.Server.{Branch, SState, now, IsLive, IsAlive, IsUnended, HoldsOne}
+use Rattle.hb_runs.specs.Server.{Branch, SState, now, IsAlive, IsUnended}
 use Rattle.hb_runs.specs.ServerEffects.{happens, enlisted, written as wrote}
 use Rattle.hb_runs.specs.ServerAnswers.{Lacks, RightIn}
-use Rattle.hb_runs.specs.ServerRuns.{Asked, Turns}
-use Rattle.hb_engine.specs.Covers.{is_covered_at, is_covered}
+use Rattle.hb_engine.specs.Covers.{is_covered}
 use Rattle.hb_engine.specs.Fits.{live_of, doubts_of, first_locks, live_in_slot, SlotFits, VoteFits, TxFits, Slots, slot_at, tx_of, Stands}
-use Rattle.hb_engine.specs.Steps.{fresh, written}
-use Rattle.hb_engine.specs.Turned.{Turned, StandsFor, IsCovered, IsFresh}
+use Rattle.hb_engine.specs.Steps.{written}
+use Rattle.hb_engine.specs.Turned.{Turned, IsCovered, IsFresh}
 use Rattle.hb_engine.specs.declared.slot.Slot.{Slot}
 use Rattle.hb_engine.proofs.Branches.{the_live, alive_of, not_alive, not_unended, live_unended, doubt_unended, of_doubts_of}
 use Rattle.hb_engine.proofs.Covering.{any_held, none_held}
-use Rattle.hb_engine.proofs.Effects.{moved, enlist_stands, write_stands}
+use Rattle.hb_engine.proofs.Effects.{moved, write_stands}
 use Rattle.std.specs.BTreeMap.{is_at}
 use Rattle.std.specs.Map.{lookup}
 use Rattle.std.specs.Ordering.{nat_cmp}

@@ -1,5 +1,6 @@
 -- How far a branch is, its vote, and its ends.
-use Rattle.std.specs.Prelude.{◌≡◌, ℕ, ◌<◌, List, Option, Some, None}
+use Rattle.std.specs.Prelude.{◌≡◌, ℕ, ◌<◌, Bool, List, Option, Some, None, is_some}
+use Rattle.hb_engine.specs.declared.slot.Slot.{Slot}
 use Rattle.hb_types.specs.declared.answer.Answer.TheVariants as answer
 use Rattle.hb_types.specs.declared.change.Change.{Change}
 use Rattle.hb_types.specs.declared.change.LogItem.{LogItem}
@@ -14,6 +15,10 @@ use Rattle.hb_engine.specs.declared.ends.Standing.{Standing}
 use Rattle.hb_engine.specs.declared.ends.Standing.TheVariants.{Absent, Live, Voted}
 use Rattle.hb_engine.specs.declared.engine.Engine.{Engine}
 use Rattle.hb_engine.specs.Turned.{StandsFor, Turned}
+
+-- the branch has voted
+abbrev pub has_voted : Slot → Bool
+has_voted slot = is_some slot.vote
 
 abbrev pub IsStanding : SState → ℕ → Standing → Type 0
 IsStanding s tx Absent = ¬ (IsUnended s tx)

@@ -12,7 +12,7 @@ use Rattle.hb_types.specs.declared.names.Number.{Number}
 use Rattle.hb_laws.specs.RowOrder.{AreAscending}
 use Rattle.hb_runs.specs.Server.{Branch, SState, now, IsAlive, IsLive, HoldsOne}
 use Rattle.hb_runs.specs.ServerAnswers.{Lacks}
-use Rattle.hb_runs.specs.ServerRuns.{Asked, Turns}
+use Rattle.hb_runs.specs.ServerRuns.{Turns}
 use Rattle.hb_engine.specs.declared.engine.Engine.{Engine}
 use Rattle.hb_engine.specs.declared.refusal.Refusal.{Refusal}
 use Rattle.hb_engine.specs.declared.refusal.Refusal.TheVariants.{NoBranch, NotLocked}

@@ -1,8 +1,10 @@
 // Votes and the ends of branches.
-ghost use Rattle.std.specs.Prelude.{◌≡◌, ℕ, ◌==◌, if◌then◌else◌, List, MatchOption, IfOk, Some, None, max};
+ghost use Rattle.std.specs.Prelude.{◌≡◌, ℕ, ◌==◌, if◌then◌else◌, List, MatchOption, IfOk, Some, None, max, length, count_by, is_some};
 ghost use Rattle.std.specs.Option.{option_map};
 ghost use Rattle.hb_types.specs.declared.change.Stored.{Stored};
-ghost use Rattle.hb_runs.specs.Server.{SState};
+ghost use Rattle.std.specs.BTreeMap.{IsOrdered, values};
+ghost use Rattle.std.specs.Ordering.{nat_cmp};
+ghost use Rattle.hb_runs.specs.Server.{SState, now};
 ghost use Rattle.hb_locks.specs.Locks.{Releases, IsCompatible};
 ghost use Rattle.hb_engine.specs.Fits.{slot_at};
 ghost use Rattle.hb_engine.specs.Steps.{voted};
@@ -38,6 +40,13 @@ impl Engine {
             },
             None => Standing::Absent,
         }
+    }
+
+    /// How many branches have voted and not ended; it costs as much as there are branches.
+    pub fn votes(&self) -> usize
+        ensures { (rows : List Stored) (s : SState) → StandsFor self.now rows s → result ≡ length (now s).doubts }
+    {
+        votes_in(&self.slots)
     }
 
     /// The record of the vote of a live branch: the floor, all its locks and all its changes.
@@ -93,6 +102,14 @@ impl Engine {
     {
         let _ = remove(&mut self.slots, &mut self.locks, tx);
     }
+}
+
+fn votes_in(slots: &Slots) -> usize
+    ensures count { result ≡ count_by (λ slot. is_some slot.vote) (values slots.now) }
+    ensures ordered { IsOrdered nat_cmp slots.now }
+{
+    let _ = slots.len();
+    slots.values().filter(|slot| slot.vote.is_some()).count()
 }
 
 /// The greater of two numbers.

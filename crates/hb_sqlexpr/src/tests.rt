@@ -50,24 +50,41 @@ fn edges(rt: HostRuntime) -> Result<(), Fail> {
     Ok(())
 }
 
-#[test]
-fn arithmetic(rt: HostRuntime) -> Result<(), Fail> {
-    let alloc = rt.alloc();
+fn name(alloc: Global, bytes: &[u8]) -> Result<Boxed<Expr>, Fail> {
+    boxed(alloc, Expr::Name(text(alloc, bytes)?))
+}
+
+/// The number at a row where A is 65,536 and B is 32,768.
+fn number_at_the_row(alloc: Global, expr: &Expr) -> Result<Option<i128>, Fail> {
     let columns = [column(alloc, b"A", 0)?, column(alloc, b"B", 0)?];
     let row = [Value::Int(65_536), Value::Int(32_768)];
-    let a = || -> Result<Boxed<Expr>, Fail> { boxed(alloc, Expr::Name(text(alloc, b"A")?)) };
-    let b = || -> Result<Boxed<Expr>, Fail> { boxed(alloc, Expr::Name(text(alloc, b"B")?)) };
-    let sum = Expr::Add(a()?, b()?);
-    assert!(rt; is_number(value_ref(&sum, &columns, &row), 98_304));
-    let difference = Expr::Sub(b()?, a()?);
-    assert!(rt; is_number(value_ref(&difference, &columns, &row), -32_768));
-    let product = Expr::Mul(a()?, b()?);
-    assert!(rt; value_ref(&product, &columns, &row).is_err());
-    let less = Expr::Mul(
-        a()?,
-        boxed(alloc, Expr::Sub(boxed(alloc, Expr::Int(0))?, b()?))?,
-    );
-    assert!(rt; is_number(value_ref(&less, &columns, &row), -2_147_483_648));
+    match value_ref(expr, &columns, &row) {
+        Ok(Borrowed::Int(number)) => Ok(Some(number)),
+        _ => Ok(None),
+    }
+}
+
+#[test]
+fn sums(rt: HostRuntime) -> Result<(), Fail> {
+    let alloc = rt.alloc();
+    let sum = Expr::Add(name(alloc, b"A")?, name(alloc, b"B")?);
+    assert_eq!(rt; number_at_the_row(alloc, &sum)?, Some(98_304));
+    Ok(())
+}
+
+#[test]
+fn differences(rt: HostRuntime) -> Result<(), Fail> {
+    let alloc = rt.alloc();
+    let difference = Expr::Sub(name(alloc, b"B")?, name(alloc, b"A")?);
+    assert_eq!(rt; number_at_the_row(alloc, &difference)?, Some(-32_768));
+    Ok(())
+}
+
+#[test]
+fn products(rt: HostRuntime) -> Result<(), Fail> {
+    let alloc = rt.alloc();
+    let product = Expr::Mul(name(alloc, b"A")?, name(alloc, b"B")?);
+    assert_eq!(rt; number_at_the_row(alloc, &product)?, None);
     Ok(())
 }
 

@@ -1,4 +1,3 @@
-use Rattle.std.proofs.Common.{◌≡◌, sym, refl}
 use Rattle.hb_engine.proofs.Rungs.{key_done}
 use Rattle.hb_engine.proofs.climb.climb.Goals as goal
 

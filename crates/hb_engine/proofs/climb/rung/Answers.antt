@@ -1,4 +1,3 @@
-use Rattle.std.proofs.Common.{◌≡◌}
 use Rattle.hb_engine.proofs.Rungs.{rung_held}
 use Rattle.hb_engine.proofs.climb.rung.Goals as goal
 

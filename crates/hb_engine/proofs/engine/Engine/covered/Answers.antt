@@ -1,4 +1,4 @@
-use Rattle.std.proofs.Common.{◌≡◌, ◌∙◌, sym}
+use Rattle.std.proofs.Common.{◌∙◌, sym}
 use Rattle.hb_engine.proofs.Turning.{covered_is, uncovered_is, not_live}
 use Rattle.hb_engine.proofs.engine.Engine.covered.Goals as goal
 

@@ -1,5 +1,5 @@
-use Rattle.std.proofs.Common.{◌≡◌, ◌∙◌, ap, sym, false, refl, Result, Ok, Err, None, Some, Option}
-use Rattle.std.specs.Result.{OnOk, OnErr}
+use Rattle.std.proofs.Common.{◌≡◌, ◌∙◌, sym, false, refl, Result, Ok, Err, None, Some, Option}
+use Rattle.std.specs.Result.{OnOk}
 use Rattle.std.specs.Option.{is_some}
 use Rattle.std.proofs.lemmas.Bool.{true≢false}
 use Rattle.hb_engine.specs.declared.slot.Slot.{Slot}

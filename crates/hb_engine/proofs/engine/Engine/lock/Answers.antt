@@ -1,5 +1,5 @@
-use Rattle.std.proofs.Common.{◌≡◌, ◌∙◌, sym}
-use Rattle.hb_engine.proofs.Turning.{none_of, some_of}
+use Rattle.std.proofs.Common.{◌∙◌, sym}
+use Rattle.hb_engine.proofs.Turning.{none_of}
 use Rattle.hb_engine.proofs.Climbing.{lock_leads, lock_no_branch}
 use Rattle.hb_engine.proofs.engine.Engine.lock.Goals as goal
 

@@ -1,4 +1,4 @@
-use Rattle.std.proofs.Common.{◌≡◌, sym, subst}
+use Rattle.std.proofs.Common.{sym, subst}
 use Rattle.hb_locks.specs.Locks.{Locks}
 use Rattle.hb_engine.specs.Fits.{Stands}
 use Rattle.hb_engine.proofs.Turning.{fresh_stands}

@@ -1,4 +1,4 @@
-use Rattle.std.proofs.Common.{◌≡◌, sym}
+use Rattle.std.proofs.Common.{sym}
 use Rattle.hb_engine.proofs.Ending.{standing_absent, standing_live, standing_voted}
 use Rattle.hb_engine.proofs.engine.Engine.standing.Goals as goal
 

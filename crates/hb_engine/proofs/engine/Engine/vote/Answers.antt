@@ -1,4 +1,4 @@
-use Rattle.std.proofs.Common.{◌≡◌, ◌∙◌, sym}
+use Rattle.std.proofs.Common.{◌∙◌, sym}
 use Rattle.hb_engine.proofs.Ending.{is_vote}
 use Rattle.hb_engine.proofs.Turning.{not_live}
 use Rattle.hb_engine.proofs.engine.Engine.vote.Goals as goal

@@ -1,5 +1,5 @@
-use Rattle.std.proofs.Common.{◌≡◌, ◌∙◌, sym, Option, Some, None, true, false, ap, not, refl}
-use Rattle.hb_engine.proofs.Turning.{none_of, some_of, write_done, write_no_branch, write_not_locked, write_no_memory}
+use Rattle.std.proofs.Common.{◌∙◌, sym}
+use Rattle.hb_engine.proofs.Turning.{none_of, some_of, write_done, write_no_branch, write_not_locked}
 use Rattle.hb_engine.proofs.engine.Engine.write.Goals as goal
 
 pub returns-then-not-is_live : goal.returns-then-not-is_live

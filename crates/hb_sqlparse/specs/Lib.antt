@@ -1,0 +1,9 @@
+pub mod Keywords
+pub mod Listed
+pub mod Columns
+pub mod Rows
+pub mod Works
+pub mod Grammar
+pub mod Lines
+pub mod PlainLines
+pub mod Laws

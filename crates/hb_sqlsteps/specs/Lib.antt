@@ -1,0 +1,9 @@
+pub mod Kept
+pub mod Marks
+pub mod ListSteps
+pub mod SetSteps
+pub mod DefinitionSteps
+pub mod RowSteps
+pub mod RebalanceSteps
+pub mod Positions
+pub mod LineSteps
