@@ -52,12 +52,6 @@ Runs (deciding k) asked (deciding l) = CRun k asked l
 Runs (managing b) asked (managing c) = BoardRun b asked c
 Runs _ asked _ = ⊥
 
--- the trail is a run from a state to one at which the node stands
-pub record Follows (stands : State → Type 0) (origin : State) (trail : List TrailEntry) : Type 0 where
-  pub state : State
-  pub at : stands state
-  pub run : Runs origin (asked_of trail) state
-
 -- ---- one call
 
 abbrev pub entry_of : Request → Answer → ℕ → ℕ → TrailEntry

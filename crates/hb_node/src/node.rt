@@ -3,7 +3,8 @@ ghost use Rattle.std.specs.Prelude.{◌≡◌, ◌≤◌, ◌<◌, ℕ, Bool, Li
 ghost use Rattle.hb_edge.specs.Causes.{Rose};
 ghost use Rattle.hb_types.specs.declared.trail.TrailEntry.{TrailEntry};
 ghost use Rattle.hb_types.specs.Calls.{IsRequest, IsAnswer};
-ghost use Rattle.hb_node.specs.Laws.{State, IsOfName, Follows, Enters, Images, entry_of};
+ghost use Rattle.hb_runs.specs.ServerRuns.{Asked};
+ghost use Rattle.hb_node.specs.Laws.{State, IsOfName, Runs, Enters, Images, asked_of, entry_of};
 
 use hb_edge::Clock;
 use hb_types::{Answer, NodeName, Request};
@@ -22,8 +23,9 @@ pub trait Node {
     /// How often its disks failed.
     ghost faults: { Self → ℕ };
 
-    /// What it holds stands for this state.
-    ghost stands: { Self → State → Type 0 };
+    /// What it holds, and each image that its disks may hold by now, is what a run of these requests makes of a state. Each image has
+    /// a run of its own: of a call that faulted, the record stands in one and not in another.
+    ghost explains: { Self → State → List Asked → Type 0 };
 
     /// Its name.
     fn name(&self) -> NodeName
@@ -36,11 +38,11 @@ pub trait Node {
         ensures name { named self.new ≡ named self.old }
         ensures entered { Enters (trail self.old) (trail self.new) (entry_of request result clock.old clock.new) }
 
-        // Where the trail was a run from a state to where the node stood, it is one still.
-        ensures law { (origin : State) → Follows (stands self.old) origin (trail self.old) → Follows (stands self.new) origin (trail self.new) }
+        // Where its trail explained the node from a state on, it does still.
+        ensures law { (origin : State) → explains self.old origin (asked_of (trail self.old)) → explains self.new origin (asked_of (trail self.new)) }
 
         // What its disks may hold since the call began is what a run of these calls makes of the log; before it, what it was.
-        ensures images { (origin : State) → Follows (stands self.old) origin (trail self.old)
+        ensures images { (origin : State) → explains self.old origin (asked_of (trail self.old))
             → Images origin (trail self.old) (trail self.new) (entry_of request result clock.old clock.new) (leaves self.new) }
         ensures before { (m : ℕ) (log area : List ℕ) → m < clock.old → leaves self.new m log area → leaves self.old m log area }
 
@@ -52,10 +54,10 @@ pub trait Node {
     fn arm(&mut self, area: bool, k: u32)
         ensures name { named self.new ≡ named self.old }
         ensures trail { trail self.new ≡ trail self.old }
-        ensures stands { (s : State) → stands self.old s → stands self.new s }
+        ensures explains { (origin : State) (asked : List Asked) → explains self.old origin asked → explains self.new origin asked }
         ensures leaves { (m : ℕ) (log area : List ℕ) → leaves self.new m log area → leaves self.old m log area }
         ensures count { faults self.old ≤ faults self.new };
 
-    /// A node stands for states of its name alone.
-    ghost of_name: { (node : Self) (s : State) → stands node s → IsOfName (named node) s };
+    /// What explains a node is a run, of its name alone.
+    ghost explained: { (node : Self) (origin : State) (asked : List Asked) → explains node origin asked → IsOfName (named node) origin × ((t : State) × Runs origin asked t) };
 }
