@@ -6,9 +6,11 @@
 mod ballot;
 mod driver;
 mod outcome;
+mod settling;
 mod stage;
 #[cfg(test)]
 mod tests;
 
 pub use driver::{Driver, Step};
 pub use outcome::Outcome;
+pub use settling::{Resolved, resolve};
