@@ -1,7 +1,6 @@
 // Written rows read back, and rows of other shapes.
 use super::*;
-use hb_types::{Column, Entry, Text};
-use sqlite_items::Items;
+use hb_types::{Bytes, Entry, Text};
 use std::alloc::Global;
 use std::test::*;
 
@@ -13,12 +12,21 @@ fn text(alloc: Global, bytes: &[u8]) -> Result<Text, Fail> {
     Ok(Text::new(Vec::from_slice(alloc, bytes)?))
 }
 
+/// The row of area A1 on bes3.
+fn row_of_area(alloc: Global) -> Result<Bytes, Fail> {
+    let name = text(alloc, b"A1")?;
+    let row = if name.as_slice().len() <= 30 {
+        area_row(alloc, &name, 3).ok()
+    } else {
+        None
+    };
+    Ok(row.ok_or("a row")?)
+}
+
 #[test]
 fn areas(rt: HostRuntime) -> Result<(), Fail> {
     let alloc = rt.alloc();
-    let row = area_row(alloc, &text(alloc, b"A1")?, 3)
-        .ok()
-        .ok_or("a row")?;
+    let row = row_of_area(alloc)?;
     assert_eq!(rt; row.as_slice(), AREA.as_slice());
     let area = read_area(alloc, &AREA).ok().ok_or("an area")?;
     assert_eq!(rt; area.name.as_slice(), b"A1".as_slice());

@@ -1,7 +1,7 @@
 // A line of rows, and one without a session.
 use super::print;
 use hb_model::{Line, Reply, Row};
-use hb_types::{NodeName, Text, Value};
+use hb_types::{Bytes, NodeName, Text, Value};
 use sqlite_items::Items;
 use std::alloc::Global;
 use std::test::*;
@@ -17,21 +17,25 @@ fn row(alloc: Global) -> Result<Row, Fail> {
     Ok(row)
 }
 
-fn line_of_rows(alloc: Global) -> Result<Line, Fail> {
-    let mut rows = Items::new(alloc);
-    rows.push(row(alloc)?)?;
-    Ok(Line {
-        session: Some(0),
+fn printed(alloc: Global, session: Option<u64>, reply: Reply, names: &[Text]) -> Option<Bytes> {
+    let line = Line {
+        session,
         work: None,
-        reply: Reply::Rows(rows),
-    })
+        reply,
+    };
+    print(alloc, &line, names).ok()
+}
+
+fn printed_rows(alloc: Global, rows: Items<Row>) -> Result<Bytes, Fail> {
+    let names = [text(alloc, b"s1")?];
+    Ok(printed(alloc, Some(0), Reply::Rows(rows), &names).ok_or("a text")?)
 }
 
 #[test]
 fn rows(rt: HostRuntime) -> Result<(), Fail> {
-    let names = [text(rt.alloc(), b"s1")?];
-    let line = line_of_rows(rt.alloc())?;
-    let bytes = print(rt.alloc(), &line, &names)?;
+    let mut rows = Items::new(rt.alloc());
+    rows.push(row(rt.alloc())?)?;
+    let bytes = printed_rows(rt.alloc(), rows)?;
     assert_eq!(rt;
         bytes.as_slice(),
         b"s1 ROW -7,\"a,b\"\ns1 ROWS 1\n".as_slice()
@@ -41,12 +45,8 @@ fn rows(rt: HostRuntime) -> Result<(), Fail> {
 
 #[test]
 fn without_a_session(rt: HostRuntime) -> Result<(), Fail> {
-    let line = Line {
-        session: None,
-        work: None,
-        reply: Reply::Armed(NodeName(2), 5),
-    };
-    let bytes = print(rt.alloc(), &line, &[])?;
+    let armed = Reply::Armed(NodeName(2), 5);
+    let bytes = printed(rt.alloc(), None, armed, &[]).ok_or("a text")?;
     assert_eq!(rt; bytes.as_slice(), b"bes1 ARMED 5\n".as_slice());
     Ok(())
 }
