@@ -100,9 +100,12 @@ pairs_with tx nodes = map (λ n. (tx, n)) nodes
 abbrev pub left_nodes : Board → ℕ → ℕ → List ℕ
 left_nodes b tx set = filter (λ n. not (has_pair b.settled tx n)) (nodes_in set)
 
--- only the first End of a transaction that was entered counts
+-- Only the first End of a transaction that was entered counts. It waits for nobody any more, so its edges go.
 abbrev pub ending : Board → ℕ → ℕ → Board
-ending b tx set = if has_entered b tx && not (has_ended b tx) then record b { ended = tx ∷ b.ended; left = pairs_with tx (left_nodes b tx set) ++ b.left } else b
+ending b tx set =
+    if has_entered b tx && not (has_ended b tx)
+        then record b { ended = tx ∷ b.ended; left = pairs_with tx (left_nodes b tx set) ++ b.left; edges = filter (λ e. not (e.waiter.0 == tx)) b.edges }
+        else b
 
 abbrev pub settling : Board → ℕ → ℕ → Board
 settling b tx node =
