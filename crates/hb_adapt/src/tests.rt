@@ -1,6 +1,6 @@
 // Each adapter once over the real system.
-use crate::{FileDisk, Stdin, Stdout};
-use hb_edge::{Clock, Disk, Failed, Sink, Source};
+use crate::{FileDisk, OpenGate, Stdin, Stdout};
+use hb_edge::{Clock, Disk, Failed, Gate, Sink, Source};
 use hb_types::Text;
 use std::test::Fail;
 use std::{fs, io};
@@ -62,5 +62,15 @@ fn a_writer_takes_all_that_is_put(rt: HostRuntime) -> Result<(), Fail> {
     let Stdout { .. } = sink;
     assert_eq!(rt; out.as_slice(), b"abc".as_slice());
     assert_eq!(rt; clock.moment(), 2);
+    Ok(())
+}
+
+#[test]
+fn an_open_gate_lets_every_request_pass(rt: HostRuntime) -> Result<(), Fail> {
+    let gate = OpenGate::new();
+    for nth in 1..4 {
+        gate.pass(0, nth);
+    }
+    assert_eq!(rt; gate, OpenGate);
     Ok(())
 }
