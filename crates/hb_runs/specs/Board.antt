@@ -104,8 +104,8 @@ left_nodes b tx set = filter (λ n. not (has_pair b.settled tx n)) (nodes_in set
 abbrev pub ending : Board → ℕ → ℕ → Board
 ending b tx set =
     if has_entered b tx && not (has_ended b tx)
-        then record b { ended = tx ∷ b.ended; left = pairs_with tx (left_nodes b tx set) ++ b.left; edges = filter (λ e. not (e.waiter.0 == tx)) b.edges }
-        else b
+    then record b { ended = tx ∷ b.ended; left = pairs_with tx (left_nodes b tx set) ++ b.left; edges = filter (λ e. not (e.waiter.0 == tx)) b.edges }
+    else b
 
 abbrev pub settling : Board → ℕ → ℕ → Board
 settling b tx node =
