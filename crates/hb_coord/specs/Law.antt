@@ -64,6 +64,12 @@ faults_in faults (Down disk) = faults_of faults disk
 faults_in faults (Up running) = faults_of faults running.log.disk
 faults_in faults Away = 0
 
+-- how many calls of the disk are still made, where its fuse is armed
+abbrev pub calls_left_in : {D : Type 0} → State D → Option ℕ
+calls_left_in (Down disk) = disk.calls_left
+calls_left_in (Up running) = running.log.disk.calls_left
+calls_left_in Away = None
+
 -- the log that is read has a bad record at this place
 abbrev pub IsDamage : Option Image → Bool → ℕ → Type 0
 IsDamage content area place = (area ≡ false) × IfSome content (λ read. IsBadAt read place)

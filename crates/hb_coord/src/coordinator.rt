@@ -1,5 +1,5 @@
 // The coordinator.
-ghost use Rattle.std.specs.Prelude.{◌≡◌, ◌↔◌, ◌+◌, ◌++◌, ◌∷◌, [], ◌≤◌, ℕ, Bool, true, false, is_some, List, Some};
+ghost use Rattle.std.specs.Prelude.{◌≡◌, ◌↔◌, ◌+◌, ◌-◌, ◌++◌, ◌∷◌, [], ◌≤◌, ℕ, Bool, true, false, is_some, List, Some};
 ghost use Rattle.hb_edge.specs.Causes.{Rose};
 ghost use Rattle.hb_edge.specs.Images.{Image};
 ghost use Rattle.hb_edge.specs.Stops.{Leaves};
@@ -7,7 +7,7 @@ ghost use Rattle.hb_types.specs.declared.change.LogItem.{LogItem};
 ghost use Rattle.hb_types.specs.Calls.{IsRequest};
 ghost use Rattle.hb_runs.specs.Coordinator.{CState, stopped_at};
 ghost use Rattle.hb_runs.specs.ServerRuns.{Asked};
-ghost use Rattle.hb_coord.specs.Law.{Explains, IsLeftIn, IsDamage, has_open_log, content_in, left_in, last_in, faults_in, most_calls};
+ghost use Rattle.hb_coord.specs.Law.{Explains, IsLeftIn, IsDamage, has_open_log, content_in, left_in, last_in, faults_in, calls_left_in, most_calls};
 ghost use Rattle.hb_coord.specs.Standing.{IsLog, asking};
 
 use crate::state::State;
@@ -67,6 +67,7 @@ impl<D: Disk> Coordinator<D> {
         ensures left { (m : ℕ) (image : Image) → left_in D.left self.new.state m image ↔ left_in D.left self.old.state m image }
         ensures last { last_in D.last self.new.state ≡ last_in D.last self.old.state }
         ensures faults { faults_in D.faults self.new.state ≡ faults_in D.faults self.old.state }
+        ensures fuse { calls_left_in self.new.state ≡ Some (k - 1) }
     {
         match &mut self.state {
             State::Down(disk) => disk.arm(k),

@@ -1,5 +1,5 @@
 // A log over a disk.
-ghost use Rattle.std.specs.Prelude.{◌≡◌, ◌⊎◌, ◌↔◌, ◌+◌, ◌<◌, ◌≤◌, ◌^◌, [], ◌∷◌, ◌++◌, List, ℕ, Some, IsTrue, false, is_some, length, IfOk, IfErr, IfSome, OnOk, IsErrOf};
+ghost use Rattle.std.specs.Prelude.{◌≡◌, ◌⊎◌, ◌↔◌, ◌+◌, ◌<◌, ◌≤◌, ◌^◌, [], ◌∷◌, ◌++◌, List, ℕ, Some, IsTrue, false, is_some, length, All, IfOk, IfErr, IfSome, OnOk, IsErrOf};
 ghost use Rattle.hb_edge.specs.Causes.{Rose};
 ghost use Rattle.hb_edge.specs.Stops.{Leaves};
 ghost use Rattle.hb_types.specs.declared.change.LogItem.{LogItem};
@@ -42,6 +42,9 @@ impl<D: Disk> Log<D> {
         ensures items { IfOk result (λ log. (read : List ℕ) → D.content disk ≡ Some read → Records read from log.items.items) }
         ensures settled { IfOk result (λ log. (read : List ℕ) → D.content disk ≡ Some read → D.last disk ≤ clock.old → (from ≡ 0) ⊎ ((from < length read) × (7 ≤ length read))
             → IsSettled D.content D.left D.last from log.items.items log) }
+
+        // Each is in the grammar, also where the disk tells nothing.
+        ensures recorded { IfOk result (λ log. All (λ p. HasRecord p.item) log.items.items) }
 
         // At every moment, and after an Err, each image left is the disk as it read, or both have fewer than 7 bytes.
         ensures stop { IfOk result (λ log. (read : List ℕ) → D.content disk ≡ Some read → D.last disk ≤ clock.old → Leaves clock.old (D.left disk) (D.left log.disk) (λ m image. IsSameOrShort read image)) }
@@ -128,13 +131,43 @@ impl<D: Disk> Log<D> {
         ensures clock { (clock.old ≤ clock.new) × (clock.new ≤ clock.old + 4) }
         ensures in_time { D.last self.old.disk ≤ clock.old → D.last self.new.disk ≤ clock.new }
     {
+        self.append_bytes(clock, framed.as_slice())
+    }
+
+    /// Adds a record by four device calls, its bytes with the closed gate behind it, and answers its place.
+    pub fn append_bytes(&mut self, clock: &mut Clock, framed: &[u8]) -> Result<u64, LogFault>
+        requires { self.old.end + 1 + length framed.now ≤ 2 ^ 62 }
+
+        ensures place { IfOk result (λ place. place ≡ self.old.end) }
+        ensures end { OnOk result (self.new.end ≡ self.old.end + length framed.now) }
+
+        // A stop at any moment since the start of the call leaves the records from before, or these and the new one.
+        ensures stop { (from : ℕ) (placed : List Placed) (item : LogItem) → IsSettled D.content D.left D.last from placed self.old → D.last self.old.disk ≤ clock.old
+            → HasRecord item → framed.now ≡ spelled item ++ 0 ∷ []
+            → Leaves clock.old (D.left self.old.disk) (D.left self.new.disk) (λ m image. IsBeforeOrAfter from placed (record { place = self.old.end; item = item }) image) }
+        // After Ok only the latter.
+        ensures acknowledged { OnOk result ((from : ℕ) (placed : List Placed) (item : LogItem) → IsSettled D.content D.left D.last from placed self.old → D.last self.old.disk ≤ clock.old
+            → HasRecord item → framed.now ≡ spelled item ++ 0 ∷ []
+            → IsSettled D.content D.left D.last from (placed ++ record { place = self.old.end; item = item } ∷ []) self.new) }
+
+        ensures closed { IsErrOf result LogFault.Closed ↔ IsTrue self.old.closed }
+        ensures fault { IsErrOf result LogFault.Fault → Rose (D.faults self.old.disk) (D.faults self.new.disk) × IsTrue self.new.closed }
+        ensures no_other { (IsErrOf result LogFault.NoMemory → ⊥) × ((place : ℕ) → IsErrOf result (LogFault.Damaged place) → ⊥) }
+        ensures still_closed { IsTrue self.old.closed → (self.new ≡ self.old) × (clock.new ≡ clock.old) }
+        ensures still_open { OnOk result (self.new.closed ≡ false) }
+        ensures items { self.new.items ≡ self.old.items }
+        ensures told { is_some (D.content self.new.disk) ≡ is_some (D.content self.old.disk) }
+        ensures count { D.faults self.old.disk ≤ D.faults self.new.disk }
+        ensures clock { (clock.old ≤ clock.new) × (clock.new ≤ clock.old + 4) }
+        ensures in_time { D.last self.old.disk ≤ clock.old → D.last self.new.disk ≤ clock.new }
+    {
         if self.closed {
             return Err(LogFault::Closed);
         }
         let place = self.end;
-        match force(&mut self.disk, clock, place, framed.as_slice()) {
+        match force(&mut self.disk, clock, place, framed) {
             Ok(()) => {
-                self.end = place + framed.as_slice().len() as u64;
+                self.end = place + framed.len() as u64;
                 Ok(place)
             }
             Err(_) => {

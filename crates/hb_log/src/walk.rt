@@ -1,7 +1,8 @@
 // Goes over the records of a log.
-ghost use Rattle.std.specs.Prelude.{◌≡◌, ◌+◌, ◌≤◌, ◌^◌, ◌∷◌, ◌++◌, [], ℕ, List, length, take, drop, IfOk, OnOk, IsErrOf};
+ghost use Rattle.std.specs.Prelude.{◌≡◌, ◌+◌, ◌≤◌, ◌^◌, ◌∷◌, ◌++◌, [], ℕ, List, length, take, drop, All, IfOk, OnOk, IsErrOf};
 ghost use Rattle.std.specs.Int.{from_le_bytes, w32};
 ghost use Rattle.hb_types.specs.Logs.{end_of};
+ghost use Rattle.hb_types.specs.Records.{HasRecord};
 ghost use Rattle.hb_log.specs.Standing.{Breaks, Found};
 ghost use Rattle.hb_log.specs.Steps.{Steps};
 ghost use Rattle.hb_log.specs.declared.walk.WalkFault.TheVariants.{NoMemory};
@@ -85,6 +86,7 @@ fn keep(items: &mut Vec<Placed>, place: u64, item: LogItem) -> Result<(), NoMemo
 pub fn walk(alloc: Global, bytes: &[u8], from: u64) -> Result<(Vec<Placed>, u64), WalkFault>
     requires { from + length bytes.now ≤ 2 ^ 62 }
     ensures found { IfOk result (λ found. (image : List ℕ) → bytes.now ≡ drop from image → Found image from found.0.items found.1) }
+    ensures recorded { IfOk result (λ found. All (λ p. HasRecord p.item) found.0.items) }
     ensures damaged { (place : ℕ) → IsErrOf result (WalkFault.Damaged place) → (image : List ℕ) → bytes.now ≡ drop from image → Breaks image from place }
     ensures within { IfOk result (λ found. found.1 ≤ from + length bytes.now) }
 {

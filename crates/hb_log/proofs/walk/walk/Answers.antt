@@ -1,6 +1,10 @@
 use Rattle.std.proofs.Common.{◌≡◌, ◌≢◌, ◌+◌, ◌∷◌, [], ◌++◌, length, sym, ◌∙◌, ap, subst, refl, arith, rules}
 use Rattle.std.proofs.lemmas.List.{length-drop}
+use Rattle.std.specs.Prelude.{All, List}
+use Rattle.std.proofs.lemmas.List.Elements.{All-push}
+use Rattle.hb_types.specs.declared.change.Placed.{Placed}
 use Rattle.hb_types.specs.Logs.{gate, end_of}
+use Rattle.hb_types.specs.Records.{HasRecord}
 use Rattle.hb_log.specs.Standing.{StandFrom}
 use Rattle.hb_log.specs.Steps.{Steps}
 use Rattle.hb_log.proofs.Standing.{stand_records, rest_behind, closed_behind, opened_behind, none_behind, stand_next, end_next}
@@ -49,4 +53,6 @@ loop-items-preserved c =
       end = (let there : c.args.from + (c.loop-items.at + c.in-Record.n) ≡ next + c.in-Record.n = omega arith in there)
           ∙ end_next c.args.from next c.in-Record.n items item i.end here.1 ∙ ap (end_of c.args.from) (sym pushed);
       within = omega (arith, here.0.inside, here.1, ap length c.split_at.ensures.back, length-drop c.loop-items.at c.args.bytes.now);
+      recorded = subst (λ (l : List Placed). All (λ p. HasRecord p.item) l) (sym pushed)
+          (All-push (λ (p : Placed). HasRecord p.item) items (record { place = next; item = item }) i.recorded here.0.has_record);
     }
