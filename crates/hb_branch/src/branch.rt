@@ -88,12 +88,19 @@ impl Branch {
     pub fn into_changes(self) -> Items<Change>
         ensures { result ≡ self.changes }
     {
+        Items::from_vec(self.into_list())
+    }
+
+    /// The changes by ascending place, each to be taken in turn.
+    pub fn into_list(self) -> Vec<Change>
+        ensures { result.items ≡ self.changes }
+    {
         let Branch {
             alloc: _,
             of: _,
             list,
         } = self;
-        Items::from_vec(list)
+        list
     }
 }
 

@@ -326,6 +326,13 @@ commits slots slots' locks locks' floor floor' rows s tx number f slot st d here
     subst (λ (cs : List Change). Stands slots' locks' floor' (put_all rows cs) (happens s (committed tx.0 number.0))) same
     (commit_stands slots slots' locks locks' floor floor' rows s tx number k.doubt st k.no_live k.one new released stand later)
 
+-- what the branch in doubt changes
+pub doubt_changes : (slots : Slots) (locks : Locks) (floor : Number) (rows : List Stored) (s : SState) (tx : Tx) (f : ℕ) (slot : Slot) → Stands slots locks floor rows s → IsInDoubt s tx.0 f
+    → slot_at slots tx.0 ≡ Some slot → changes_of tx.0 (now s).doubts ≡ slot.branch.changes
+doubt_changes slots locks floor rows s tx f slot st d here =
+    let k = doubt_slot slots locks floor rows s tx.0 f st d in
+    changes_are tx.0 (now s).doubts k.doubt k.one ∙ k.changes ∙ ap (λ (x : Slot). x.branch.changes) (slot_same k.slot slot (sym k.is_slot ∙ here))
+
 pub never_gone : (slots : Slots) (locks : Locks) (floor : Number) (rows : List Stored) (s : SState) (tx f : ℕ) → Stands slots locks floor rows s → IsInDoubt s tx f → slot_at slots tx ≡ None → ⊥
 never_gone slots locks floor rows s tx f st d e = let k = doubt_slot slots locks floor rows s tx f st d in slot_gone k.slot (sym e ∙ k.is_slot)
 

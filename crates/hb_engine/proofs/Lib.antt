@@ -7,3 +7,6 @@ pub mod Rungs
 pub mod Climbing
 pub mod Ending
 pub mod Counting
+pub mod Refilling
+pub mod Retaking
+pub mod Restoring

@@ -9,7 +9,8 @@ use Rattle.hb_types.specs.declared.names.Number.{Number}
 use Rattle.hb_types.specs.declared.names.Tx.{Tx}
 use Rattle.hb_types.specs.declared.request.Request.TheVariants as request
 use Rattle.hb_types.specs.Put.{put_all}
-use Rattle.hb_runs.specs.Server.{Branch, SState, IsAlive, IsLive, IsInDoubt, IsUnended}
+use Rattle.hb_disks.specs.Redo.{changes_of}
+use Rattle.hb_runs.specs.Server.{Branch, SState, now, IsAlive, IsLive, IsInDoubt, IsUnended}
 use Rattle.hb_runs.specs.ServerEffects.{VoteHasRoom, vote_of}
 use Rattle.hb_engine.specs.declared.ends.Standing.{Standing}
 use Rattle.hb_engine.specs.declared.ends.Standing.TheVariants.{Absent, Live, Voted}
@@ -36,17 +37,22 @@ Votes old new tx floor =
     (rows : List Stored) (s : SState) (b : Branch) → StandsFor old rows s → IsLive s tx.0 b → VoteHasRoom s b
     → Turned s (request.Prepare tx) (answer.Vote floor) (λ t. StandsFor new rows t)
 
--- Once the Commit of a branch in doubt stands, of a number above its floor: the branch has ended, and the rows have its changes.
-abbrev pub Commits : Engine → Engine → Tx → Number → Option (List Change) → Type 0
-Commits old new tx number None = (rows : List Stored) (s : SState) (floor : ℕ) → StandsFor old rows s → IsInDoubt s tx.0 floor → ⊥
-Commits old new tx number (Some changes) =
-    (rows : List Stored) (s : SState) (floor : ℕ) → StandsFor old rows s → IsInDoubt s tx.0 floor → floor < number.0
-    → Turned s (request.Commit tx number) answer.Done (λ t. StandsFor new (put_all rows changes) t)
+-- no branch of the transaction is in doubt
+abbrev pub NoneInDoubt : Engine → Tx → Type 0
+NoneInDoubt e tx = (rows : List Stored) (s : SState) (floor : ℕ) → StandsFor e rows s → IsInDoubt s tx.0 floor → ⊥
 
--- once the Abort of a branch in doubt stands
-abbrev pub Aborts : Engine → Engine → Tx → Type 0
-Aborts old new tx =
-    (rows : List Stored) (s : SState) (floor : ℕ) → StandsFor old rows s → IsInDoubt s tx.0 floor → Turned s (request.Rollback tx) answer.Done (λ t. StandsFor new rows t)
+-- Once the Commit of a branch in doubt stands, of a number above its floor: the branch has ended, and the rows have its changes.
+abbrev pub Commits : Engine → Engine → Tx → Number → List Change → Type 0
+Commits old new tx number changes =
+    (rows : List Stored) (s : SState) (floor : ℕ) → StandsFor old rows s → IsInDoubt s tx.0 floor
+    → (changes_of tx.0 (now s).doubts ≡ changes)
+    × (floor < number.0 → Turned s (request.Commit tx number) answer.Done (λ t. StandsFor new (put_all rows changes) t))
+
+-- once the Abort of a branch in doubt stands, which had these changes
+abbrev pub Aborts : Engine → Engine → Tx → List Change → Type 0
+Aborts old new tx changes =
+    (rows : List Stored) (s : SState) (floor : ℕ) → StandsFor old rows s → IsInDoubt s tx.0 floor
+    → (changes_of tx.0 (now s).doubts ≡ changes) × Turned s (request.Rollback tx) answer.Done (λ t. StandsFor new rows t)
 
 -- a live branch is given up
 abbrev pub Drops : Engine → Engine → Tx → Type 0

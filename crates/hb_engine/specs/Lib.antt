@@ -4,3 +4,4 @@ pub mod Climbs
 pub mod Steps
 pub mod Covers
 pub mod Turned
+pub mod Restores

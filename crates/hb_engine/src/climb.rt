@@ -9,7 +9,7 @@ use hb_locks::{LockTable, Take};
 use hb_types::{Answer, Mode, NoMemory, Path, Space, Tx};
 
 /// The mode in which the paths above are taken.
-fn intention(mode: Mode) -> Mode
+pub(crate) fn intention(mode: Mode) -> Mode
     ensures { result ≡ mode_intention mode }
 {
     match mode {

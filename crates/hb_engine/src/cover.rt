@@ -19,7 +19,7 @@ pub(crate) fn covers(held: Mode, wanted: Mode) -> bool
 }
 
 /// Whether the transaction holds one path in a mode as strong as this one.
-fn is_held(locks: &LockTable, tx: Tx, path: Path, mode: Mode) -> bool
+pub(crate) fn is_held(locks: &LockTable, tx: Tx, path: Path, mode: Mode) -> bool
     ensures { result ≡ is_covered_at locks.now tx mode path }
 {
     match locks.held(tx, path) {

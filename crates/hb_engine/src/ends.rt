@@ -9,7 +9,7 @@ ghost use Rattle.hb_locks.specs.Locks.{Releases, IsCompatible};
 ghost use Rattle.hb_engine.specs.Fits.{slot_at};
 ghost use Rattle.hb_engine.specs.Steps.{voted};
 ghost use Rattle.hb_engine.specs.Turned.{StandsFor};
-ghost use Rattle.hb_engine.specs.Ends.{IsStanding, IsVote, Votes, Commits, Aborts, Drops};
+ghost use Rattle.hb_engine.specs.Ends.{IsStanding, IsVote, Votes, Commits, Aborts, Drops, NoneInDoubt};
 
 use crate::engine::{Engine, Slots, live_branch};
 use crate::slot::Slot;
@@ -77,23 +77,26 @@ impl Engine {
     }
 
     /// The Commit of a branch that voted stands; gives the changes that are to be applied now.
-    pub fn committed(&mut self, tx: Tx, number: Number) -> Option<Items<Change>>
-        ensures { Commits self.old self.new tx number result }
+    pub fn committed(&mut self, tx: Tx, number: Number) -> Option<Vec<Change>>
+        ensures { MatchOption result (NoneInDoubt self.old tx) (λ changes. Commits self.old self.new tx number changes.items) }
     {
         match remove(&mut self.slots, &mut self.locks, tx) {
             Some(slot) => {
                 self.floor = later(self.floor, number);
-                Some(slot.branch.into_changes())
+                Some(slot.branch.into_list())
             }
             None => None,
         }
     }
 
-    /// The Abort of a branch that voted stands.
-    pub fn aborted(&mut self, tx: Tx)
-        ensures { Aborts self.old self.new tx }
+    /// The Abort of a branch that voted stands; gives the changes that are not to be.
+    pub fn aborted(&mut self, tx: Tx) -> Option<Vec<Change>>
+        ensures { MatchOption result (NoneInDoubt self.old tx) (λ changes. Aborts self.old self.new tx changes.items) }
     {
-        let _ = remove(&mut self.slots, &mut self.locks, tx);
+        match remove(&mut self.slots, &mut self.locks, tx) {
+            Some(slot) => Some(slot.branch.into_list()),
+            None => None,
+        }
     }
 
     /// A live branch is given up.

@@ -9,6 +9,7 @@ mod cover;
 mod ends;
 mod engine;
 mod refusal;
+mod restore;
 mod slot;
 
 pub use ends::Standing;

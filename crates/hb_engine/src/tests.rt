@@ -79,7 +79,7 @@ fn a_reader_waits_for_a_writer(rt: HostRuntime) -> Result<(), Fail> {
     assert_eq!(rt; floor_of(&engine.vote(TWO)?), Some(Number(5)));
     assert_eq!(rt; engine.voted(TWO), Number(5));
     assert_eq!(rt; engine.standing(TWO), Standing::Voted(Number(5)));
-    engine.aborted(TWO);
+    assert!(rt; engine.aborted(TWO).is_some());
     assert_eq!(rt; engine.standing(TWO), Standing::Absent);
     Ok(())
 }

@@ -1,14 +1,15 @@
 // The requests that end a branch or let it vote, where no record is forced.
-ghost use Rattle.std.specs.Prelude.{MatchOption};
+ghost use Rattle.std.specs.Prelude.{MatchOption, IfSome};
 ghost use Rattle.hb_engine.specs.Turned.{Leads};
-ghost use Rattle.hb_requests.specs.Forced.{Votes, Commits, RollsBack};
+ghost use Rattle.hb_requests.specs.Forced.{Votes, Commits, RollsBack, RecordsNone};
 
 use hb_engine::{Engine, Standing};
 use hb_types::{Answer, Number, Request, Tx};
 
 /// Refuses a Prepare; None where a vote is to be forced.
 pub(crate) fn prepare(engine: &Engine, tx: Tx) -> Option<Answer>
-    ensures { MatchOption result (Votes engine.now tx) (λ a. Leads engine.now engine.now (Request.Prepare tx) a) }
+    ensures turns { MatchOption result (Votes engine.now tx) (λ a. Leads engine.now engine.now (Request.Prepare tx) a) }
+    ensures records_none { IfSome result (λ a. RecordsNone engine.now (Request.Prepare tx) a) }
 {
     match engine.standing(tx) {
         Standing::Live => None,
@@ -19,7 +20,8 @@ pub(crate) fn prepare(engine: &Engine, tx: Tx) -> Option<Answer>
 
 /// Refuses a Commit; None where one is to be forced.
 pub(crate) fn commit(engine: &Engine, tx: Tx, number: Number) -> Option<Answer>
-    ensures { MatchOption result (Commits engine.now tx number) (λ a. Leads engine.now engine.now (Request.Commit tx number) a) }
+    ensures turns { MatchOption result (Commits engine.now tx number) (λ a. Leads engine.now engine.now (Request.Commit tx number) a) }
+    ensures records_none { IfSome result (λ a. RecordsNone engine.now (Request.Commit tx number) a) }
 {
     match engine.standing(tx) {
         Standing::Absent => Some(Answer::NoBranch),
@@ -31,7 +33,8 @@ pub(crate) fn commit(engine: &Engine, tx: Tx, number: Number) -> Option<Answer>
 
 /// Gives up a live branch, or refuses; None where an Abort is to be forced.
 pub(crate) fn rollback(engine: &mut Engine, tx: Tx) -> Option<Answer>
-    ensures { MatchOption result (RollsBack engine.old engine.new tx) (λ a. Leads engine.old engine.new (Request.Rollback tx) a) }
+    ensures turns { MatchOption result (RollsBack engine.old engine.new tx) (λ a. Leads engine.old engine.new (Request.Rollback tx) a) }
+    ensures records_none { IfSome result (λ a. RecordsNone engine.old (Request.Rollback tx) a) }
 {
     match engine.standing(tx) {
         Standing::Absent => Some(Answer::NoBranch),

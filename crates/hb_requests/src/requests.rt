@@ -1,7 +1,7 @@
 // One request.
-ghost use Rattle.std.specs.Prelude.{MatchOption};
+ghost use Rattle.std.specs.Prelude.{MatchOption, IfSome};
 ghost use Rattle.hb_engine.specs.Turned.{Leads};
-ghost use Rattle.hb_requests.specs.Forced.{Forces, LeadsAt};
+ghost use Rattle.hb_requests.specs.Forced.{Forces, LeadsAt, RecordsNone};
 
 use crate::reads::{group_keys, read, scan, scan_group};
 use crate::refusals::{commit, prepare, rollback};
@@ -17,7 +17,8 @@ pub fn answer<T: Store>(
     store: &T,
     request: &Request,
 ) -> Option<Answer>
-    ensures { MatchOption result (Forces engine.old engine.new request.now) (λ a. LeadsAt engine.old engine.new (T.rows store.now) request.now a) }
+    ensures turns { MatchOption result (Forces engine.old engine.new request.now) (λ a. LeadsAt engine.old engine.new (T.rows store.now) request.now a) }
+    ensures records_none { IfSome result (λ a. RecordsNone engine.old request.now a) }
 {
     match request {
         Request::Enlist { tx } => Some(enlist(engine, *tx)),
