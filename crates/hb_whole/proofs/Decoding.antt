@@ -23,7 +23,7 @@ abbrev or_empty : Option (List ℕ) → List ℕ
 or_empty None = []
 or_empty (Some row) = row
 
-stored_eq : (a b : Stored) → as_change a ≡ as_change b → a ≡ b
+pub stored_eq : (a b : Stored) → as_change a ≡ as_change b → a ≡ b
 stored_eq a b e =
     let p : a.place ≡ b.place = ap (λ (c : Change). c.place) e in
     let r : a.row ≡ b.row = ap (λ (c : Change). or_empty c.row) e in

@@ -10,3 +10,8 @@ mod Sealing
 mod SlotRows
 mod Windows
 mod Under
+mod Filling
+mod Finding
+mod Making
+mod OnePoint
+mod Quiet

@@ -14,7 +14,8 @@ use Rattle.hb_disks.specs.Points.{Point}
 use Rattle.hb_disks.specs.WholeImage.{PointIs, header_bytes, is_open}
 use Rattle.hb_whole.specs.declared.valid.Valid.{Valid}
 use Rattle.hb_whole.specs.Kept.{AreKept, Avoids, Fits, IsReady, Keeps, spare_at}
-use Rattle.hb_whole.proofs.Keeping.{image_behind, keeps_behind, keeps_gate, keeps_header, keeps_valid, opened, ready_too, shut}
+use Rattle.hb_whole.specs.KeptLaws.{keeps_valid}
+use Rattle.hb_whole.proofs.Keeping.{image_behind, keeps_behind, keeps_gate, keeps_header, opened, ready_too, shut}
 use Rattle.hb_whole.proofs.Windows.{is_at_written}
 
 abbrev Left : Type 1

@@ -1,6 +1,9 @@
 pub mod Headers
 pub mod Kept
+pub mod KeptLaws
 pub mod Next
+pub mod Points
 pub mod Ranges
 pub mod Read
 pub mod Slots
+pub mod Store

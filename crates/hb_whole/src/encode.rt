@@ -5,6 +5,7 @@ ghost use Rattle.hb_types.specs.Numbers.{two, four, eight, signed_eight};
 ghost use Rattle.hb_types.specs.Records.{change_bytes, place_bytes, space_bytes};
 ghost use Rattle.hb_types.specs.Rows.{IsRow};
 ghost use Rattle.hb_disks.specs.WholeImage.{as_change, image_bytes};
+ghost use Rattle.hb_whole.specs.Points.{AreRows};
 ghost use Rattle.hb_whole.specs.Slots.{rows_of, AreSound, IsSlot};
 
 use crate::map::{Map, Slot};
@@ -89,7 +90,8 @@ pub(crate) fn count(map: &Map) -> Option<u32>
 pub(crate) fn image(alloc: Global, map: &Map, count: u32) -> Result<Vec<u8>, NoMemory>
     requires sound { AreSound map.now.entries }
     requires count { count ≡ length (rows_of map.now.entries) }
-    ensures { IfOk result (λ bytes. bytes.items ≡ image_bytes (rows_of map.now.entries)) }
+    ensures image { IfOk result (λ bytes. bytes.items ≡ image_bytes (rows_of map.now.entries)) }
+    ensures sound { OnOk result (AreRows (rows_of map.now.entries)) }
 {
     let mut out = Vec::from_slice(alloc, &count.to_le_bytes())?;
     for (place, slot) in map.iter() {

@@ -7,14 +7,23 @@
 mod decode;
 mod device;
 mod encode;
+mod fill;
+mod find;
+mod finish;
+mod flush;
 mod header;
 mod listing;
+mod load;
 mod map;
+mod next;
+mod opened;
 mod place;
 mod rooms;
 mod slots;
 #[cfg(test)]
 mod tests;
 mod valid;
+mod whole;
 
 pub use slots::Slots;
+pub use whole::Whole;

@@ -2,11 +2,11 @@
 ghost use Rattle.std.specs.Prelude.{◌≡◌, ◌+◌, ◌≤◌, ◌<◌, ◌^◌, ℕ, Bool, List, Option, MatchOption};
 ghost use Rattle.hb_disks.specs.Points.{Point};
 ghost use Rattle.hb_whole.specs.Kept.{Avoids, Keeps};
-ghost use Rattle.hb_whole.specs.Next.{next_place, next_sequence};
+ghost use Rattle.hb_whole.specs.Next.{next_place, next_second, next_sequence};
 
 use crate::valid::Valid;
 
-const GREATEST: u64 = 1 << 62;
+pub(crate) const GREATEST: u64 = 1 << 62;
 
 /// Where an image of so many bytes goes, if it ends at 2^62 or before.
 pub(crate) fn place_for(valid: Option<Valid>, length: u64) -> Option<u64>
@@ -34,6 +34,16 @@ pub(crate) fn sequence_for(valid: Option<Valid>) -> Option<u64>
         None => Some(1),
         Some(valid) if valid.sequence < GREATEST => Some(valid.sequence + 1),
         Some(_) => None,
+    }
+}
+
+/// Whether the next point stands in the second header.
+pub(crate) fn second_for(valid: Option<Valid>) -> bool
+    ensures { result ≡ next_second valid }
+{
+    match valid {
+        None => false,
+        Some(valid) => !valid.second,
     }
 }
 

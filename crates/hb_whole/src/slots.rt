@@ -1,5 +1,5 @@
 // Rows by place, with room for changes to come.
-ghost use Rattle.std.specs.Prelude.{◌≡◌, ◌+◌, ◌≤◌, [], if◌then◌else◌, take, All, option_copied, IfSome, IfOk, OnOk, OnErr};
+ghost use Rattle.std.specs.Prelude.{◌≡◌, ◌+◌, ◌≤◌, ◌^◌, [], length, if◌then◌else◌, take, All, option_copied, IfSome, IfOk, MatchOption, OnOk, OnErr};
 ghost use Rattle.std.specs.Ordering.{int_cmp};
 ghost use Rattle.hb_types.specs.declared.places.Path.TheVariants.{Group};
 ghost use Rattle.hb_types.specs.declared.places.Place.{Place as PlaceAt};
@@ -8,8 +8,12 @@ ghost use Rattle.hb_types.specs.Places.{place_cmp, same_place};
 ghost use Rattle.hb_types.specs.Put.{lookup, put, rows_under};
 ghost use Rattle.hb_types.specs.Rows.{IsRow};
 ghost use Rattle.hb_store.specs.Meanings.{count_at, keys_of, IsStored};
+ghost use Rattle.hb_disks.specs.WholeImage.{image_bytes};
+ghost use Rattle.hb_whole.specs.Points.{AreRows};
 ghost use Rattle.hb_whole.specs.Slots.{rows_of, room_at};
 
+use crate::encode::{count, image};
+use crate::fill::map_of;
 use crate::listing::{keys_in, rows_in};
 use crate::map::{Map, row_at, set_row, take_room};
 use crate::rooms::{give_back, make_room};
@@ -99,5 +103,31 @@ impl Slots {
         let Change { place, row } = change;
         set_row(&mut self.map, place, row);
         take_room(&mut self.map, place);
+    }
+
+    /// These rows, with no room.
+    pub fn from_rows(alloc: Global, rows: Items<Stored>) -> Result<Slots, NoMemory>
+        requires { AreRows rows }
+        ensures rows { IfOk result (λ slots. rows_of slots ≡ rows) }
+        ensures bare { IfOk result (λ slots. (q : PlaceAt) → room_at slots q ≡ 0) }
+    {
+        let map = map_of(alloc, rows)?;
+        Ok(Slots { alloc, map })
+    }
+
+    /// How many rows there are, if a count of four bytes holds that.
+    pub fn count(&self) -> Option<u32>
+        ensures { MatchOption result (2 ^ 32 ≤ length (rows_of self.now)) (λ n. n ≡ length (rows_of self.now)) }
+    {
+        count(&self.map)
+    }
+
+    /// The image of all rows.
+    pub fn image(&self, count: u32) -> Result<Vec<u8>, NoMemory>
+        requires { count ≡ length (rows_of self.now) }
+        ensures image { IfOk result (λ bytes. bytes.items ≡ image_bytes (rows_of self.now)) }
+        ensures sound { OnOk result (AreRows (rows_of self.now)) }
+    {
+        image(self.alloc, &self.map, count)
     }
 }
