@@ -1,5 +1,5 @@
 -- The manager as its trail tells it: who waits for whom, and who has ended.
-use Rattle.std.specs.Prelude.{◌≡◌, ◌≢◌, ℕ, ◌==◌, Bool, not, ◌&&◌, IsTrue, if◌then◌else◌, List, [], ◌∷◌, ◌++◌, map, filter, filter_map, find, Contains, All, Option, Some, None, option_map}
+use Rattle.std.specs.Prelude.{◌≡◌, ◌≢◌, ℕ, ◌==◌, Bool, true, false, not, ◌&&◌, IsTrue, if◌then◌else◌, List, [], ◌∷◌, ◌++◌, map, filter, filter_map, find, Contains, All, Option, Some, None, option_map}
 use Rattle.std.specs.List.{list_any}
 use Rattle.hb_types.specs.declared.lock.Holder.{Holder}
 use Rattle.hb_types.specs.declared.lock.Mode.{Mode}
@@ -121,6 +121,16 @@ target_of (e ∷ es) = answer.NotYet e.holder
 
 -- ---- one request
 
+-- what the manager is there for
+abbrev pub is_managed : Request → Bool
+is_managed (request.Enter tx owner) = true
+is_managed (request.Wait tx node path wanted holders) = true
+is_managed (request.Ready tx) = true
+is_managed (request.End tx left) = true
+is_managed (request.Settled tx node) = true
+is_managed (request.Halted node) = true
+is_managed _ = false
+
 -- the transaction and the holders were entered
 abbrev pub CanWait : Board → Tx → List Holder → Type 0
 CanWait b tx holders = IsTrue (has_entered b tx.0) × All (λ h. IsTrue (has_entered b h.tx.0)) holders
@@ -143,4 +153,5 @@ pub data Steps (b : Board) : Request → Answer → Board → Type 0 where
   ends : (tx : Tx) (set : ℕ) → Steps b (request.End tx (record { 0 = set })) answer.Done (ending b tx.0 set)
   settles : (tx : Tx) (node : NodeName) → Steps b (request.Settled tx node) answer.Done (settling b tx.0 node.0)
   halts : (node : NodeName) → Steps b (request.Halted node) answer.Done (halting b node)
+  others : (q : Request) → IsTrue (not (is_managed q)) → Steps b q answer.NotMine b
   no_memory : (q : Request) → Steps b q answer.NoMemory b
