@@ -1,0 +1,4 @@
+pub mod Lengths
+pub mod Standing
+pub mod Kept
+pub mod Quiet

@@ -1,0 +1,50 @@
+// The commit of a branch that voted.
+ghost use Rattle.std.specs.Prelude.{◌≡◌, ◌+◌, ◌≤◌, true, false, is_some, IfOk, OnOk, OnErr};
+ghost use Rattle.hb_edge.specs.Causes.{HasCause};
+ghost use Rattle.hb_types.specs.Numbers.{IsNumber};
+ghost use Rattle.hb_requests.specs.Forced.{Commits};
+ghost use Rattle.hb_store.specs.Meanings.{Stays};
+ghost use Rattle.hb_force.specs.Kept.{Keeps};
+ghost use Rattle.hb_force.specs.Standing.{Turns, Faults, LeavesBetween};
+
+use crate::appending::append;
+use crate::applying::apply_all;
+use crate::frames::commit_bytes;
+use crate::running::Running;
+use hb_edge::{Clock, Disk, Failed};
+use hb_store::Store;
+use hb_types::{Answer, Number, Request, Tx};
+
+impl<D: Disk, S: Store> Running<D, S> {
+    /// Forces the Commit of a branch that voted, and makes its changes. It takes no memory.
+    pub(crate) fn commit(
+        &mut self,
+        clock: &mut Clock,
+        tx: Tx,
+        number: Number,
+    ) -> Result<Answer, Failed>
+        requires is_open { self.old.log.closed ≡ false }
+        requires kept { Keeps S.rows S.room self.old }
+        requires commits { Commits self.old.engine tx number }
+        requires tx { IsNumber tx.0 }
+        requires number { IsNumber number.0 }
+        ensures turns { IfOk result (Turns D.content D.left D.last S.rows self.old clock.old self.new clock.new (Request.Commit tx number)) }
+        ensures faulted { OnErr result (Faults D.content D.left D.last S.rows self.old clock.old (Request.Commit tx number)) }
+        ensures leaves { LeavesBetween D.content D.left D.last S.rows self.old clock.old self.new (Request.Commit tx number) }
+        ensures kept { OnOk result (Keeps S.rows S.room self.new) }
+        ensures stays { Stays S.keeps S.staged self.old.store self.new.store }
+        ensures done { IfOk result (λ a. a ≡ Answer.Done) }
+        ensures is_open { OnOk result (self.new.log.closed ≡ false) }
+        ensures told { is_some (D.content self.new.log.disk) ≡ is_some (D.content self.old.log.disk) }
+        ensures clock { (clock.old ≤ clock.new) × (clock.new ≤ clock.old + 4) }
+        ensures in_time { D.last self.old.log.disk ≤ clock.old → D.last self.new.log.disk ≤ clock.new }
+        ensures cause { HasCause (D.faults self.old.log.disk) (D.faults self.new.log.disk) result }
+    {
+        append(&mut self.log, clock, &commit_bytes(tx, number))?;
+        match self.engine.committed(tx, number) {
+            Some(changes) => apply_all(&mut self.store, changes),
+            None => unreachable!(),
+        }
+        Ok(Answer::Done)
+    }
+}

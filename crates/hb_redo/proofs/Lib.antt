@@ -1,0 +1,4 @@
+pub mod Staying
+pub mod Leaving
+pub mod Staging
+pub mod Walking
