@@ -2,39 +2,35 @@
 use Rattle.std.proofs.Common.{◌≡◌, ◌≢◌, ℕ, ◌+◌, ◌<◌, ◌≤◌, List, [], ◌∷◌, ◌++◌, length, take, refl, sym, ◌∙◌, ap, subst, arith, length-append}
 use Rattle.std.specs.Prelude.{Some, is_some, max, Result, Err}
 use Rattle.std.specs.declared.option.Option.{Option}
-use Rattle.std.proofs.lemmas.List.{append-nil}
+use Rattle.std.proofs.lemmas.List.{append-nil, nil_from_length}
 use Rattle.hb_edge.specs.Images.{Image}
 use Rattle.hb_edge.specs.Moments.{tick}
 use Rattle.hb_edge.specs.Stops.{Leaves}
 use Rattle.hb_edge.specs.Streams.{with_end, with_front, PutsPart}
 use Rattle.hb_table.specs.declared.order.Order.{Order}
-use Rattle.hb_table.specs.Log.{Kept}
-use Rattle.hb_table.specs.Table.{Entry, entries_with, reply_to}
-use Rattle.hb_table.specs.Run.{entries_after, replies, IsFront}
+use Rattle.hb_table.specs.Run.{Standing, after, after_all, reply_to, replies, IsFront}
 use Rattle.hb_script.specs.Scripts.{NextOrder}
 use Rattle.hb_console.specs.declared.stop.Stop.{Stop}
-use Rattle.hb_console.specs.declared.stop.Stop.TheVariants.{Disk}
+use Rattle.hb_console.specs.declared.stop.Stop.TheVariants.{Disk, Line}
 use Rattle.hb_console.specs.declared.table.Table.{Table}
-use Rattle.hb_console.specs.declared.reply.Reply.{Reply}
 use Rattle.hb_console.specs.Outside.{Outside, Faults, GoesOn, MayStop}
-use Rattle.hb_console.specs.Replies.{bytes_of}
-use Rattle.hb_console.specs.Tables.{HasEntries, HasEither, IsReady, Answers, Stores}
+use Rattle.hb_console.specs.Tables.{HasState, HasEither, IsReady, Answers, Stores}
 use Rattle.hb_console.specs.Runs.{BehindSince, Reached, Runs}
 use Rattle.hb_console.proofs.Replying.{with_end_twice, replies-push, front_part}
-use Rattle.hb_console.proofs.Settled.{stores_kept, stays_kept}
-use Rattle.hb_console.proofs.Behind.{AskedSoFar, asked_start, asked_on, with_front_nothing, no_more, entries-push, front_push, has_as, behind_served, behind_put}
+use Rattle.hb_console.proofs.Settled.{stores_ready, stays_ready}
+use Rattle.hb_console.proofs.Behind.{AskedSoFar, asked_start, asked_on, with_front_nothing, no_more, after-push, front_push, has_as, behind_served, behind_put}
 use Rattle.hb_console.proofs.Halting.{Halts, halts_stops, halts_survives}
 
 module _ {D : Type 0} (content : D → Option Image) (left : D → ℕ → Image → Type 0) (last : D → ℕ) where
   -- these orders are done, and they are what was asked so far
-  pub record Running (since : ℕ) (start : List Entry) (all rest held : Option (List ℕ)) (number : ℕ) (table : Table D) (output : Option (List ℕ)) (shown : ℕ → Option (List ℕ)) (put_at moment : ℕ) : Type 0 where
+  pub record Running (since : ℕ) (start : Standing) (all rest held : Option (List ℕ)) (number : ℕ) (table : Table D) (output : Option (List ℕ)) (shown : ℕ → Option (List ℕ)) (put_at moment : ℕ) : Type 0 where
     pub done : List Order
     pub told : is_some rest ≡ is_some all
     pub asked : AskedSoFar all rest done
     pub count : number ≡ length done
     pub reached : Reached content left last since held start done table output shown put_at moment
 
-  pub runs_start : (since : ℕ) (start : List Entry) (all : Option (List ℕ)) (reader : List ℕ) (table : Table D) (output : Option (List ℕ)) (shown : ℕ → Option (List ℕ)) (put_at moment : ℕ) → reader ≡ [] → Reached content left last since output start [] table output shown put_at moment
+  pub runs_start : (since : ℕ) (start : Standing) (all : Option (List ℕ)) (reader : List ℕ) (table : Table D) (output : Option (List ℕ)) (shown : ℕ → Option (List ℕ)) (put_at moment : ℕ) → reader ≡ [] → Reached content left last since output start [] table output shown put_at moment
       → Running since start all (with_front reader all) output 0 table output shown put_at moment
   runs_start since start all reader table output shown put_at moment empty reached =
       let same : all ≡ with_front reader all = sym (ap (λ (l : List ℕ). with_front l all) empty ∙ with_front_nothing all) in
@@ -55,7 +51,7 @@ module _ {D : Type 0} (content : D → Option Image) (left : D → ℕ → Image
     pub now : (m : ℕ) → put_at' ≤ m → shown' m ≡ output'
 
   -- it stopped between two orders, or before the first
-  pub halts_between : (since : ℕ) (start : List Entry) (all rest held : Option (List ℕ)) (number : ℕ) (table : Table D) (input output : Option (List ℕ)) (shown : ℕ → Option (List ℕ)) (put_at moment : ℕ) (faults : Faults) (stop : Stop) → Stands table
+  pub halts_between : (since : ℕ) (start : Standing) (all rest held : Option (List ℕ)) (number : ℕ) (table : Table D) (input output : Option (List ℕ)) (shown : ℕ → Option (List ℕ)) (put_at moment : ℕ) (faults : Faults) (stop : Stop) → Stands table
       → Running since start all rest held number table output shown put_at moment → Halts since all held (view input output shown put_at moment faults table) start stop
   halts_between since start all rest held number table input output shown put_at moment faults stop stands running = record {
     rest = rest;
@@ -69,19 +65,20 @@ module _ {D : Type 0} (content : D → Option Image) (left : D → ℕ → Image
       first = running.done;
       later = [];
       split = sym (append-nil running.done);
-      stores = subst (λ (es : List Entry). Stores es (content table.log.disk) (left table.log.disk) (last table.log.disk)) running.reached.entries (stores_kept content left last running.reached.kept table.log moment stands running.reached.ready.log);
+      stores = stores_ready content left last (after_all start running.done) table moment stands running.reached.ready;
       front = no_more (replies 1 start running.done);
     };
+    whole = λ is. refl;
     behind = running.reached.behind;
   }
 
-  pub runs_none : (since : ℕ) (start : List Entry) (all : Option (List ℕ)) (table : Table D) (output : Option (List ℕ)) (shown : ℕ → Option (List ℕ)) (put_at moment : ℕ) → Reached content left last since output start [] table output shown put_at moment
+  pub runs_none : (since : ℕ) (start : Standing) (all : Option (List ℕ)) (table : Table D) (output : Option (List ℕ)) (shown : ℕ → Option (List ℕ)) (put_at moment : ℕ) → Reached content left last since output start [] table output shown put_at moment
       → Running since start all all output 0 table output shown put_at moment
   runs_none since start all table output shown put_at moment reached = record { done = []; told = refl; asked = asked_start all; count = refl; reached = reached }
 
-  module _ (since : ℕ) (start : List Entry) (all rest more held : Option (List ℕ)) (number : ℕ) (table table' : Table D) (output : Option (List ℕ)) (shown : ℕ → Option (List ℕ)) (put_at moment : ℕ)
+  module _ (since : ℕ) (start : Standing) (all rest more held : Option (List ℕ)) (number : ℕ) (table table' : Table D) (output : Option (List ℕ)) (shown : ℕ → Option (List ℕ)) (put_at moment : ℕ)
       (running : Running since start all rest held number table output shown put_at moment) (order : Order) (next : NextOrder (Some order) rest more) (now : (m : ℕ) → put_at ≤ m → shown m ≡ output)
-      (leaves : (kept : Kept) → IsReady content left last kept table moment → Leaves moment (left table.log.disk) (left table'.log.disk) (λ m image. HasEither kept.entries (entries_with kept.entries order) image)) where
+      (leaves : (s : Standing) → IsReady content left last s table moment → Leaves moment (left table.log.disk) (left table'.log.disk) (λ m image. HasEither s (after s order) image)) where
     abbrev pub done_now : List Order
     done_now = running.done ++ order ∷ []
 
@@ -92,14 +89,14 @@ module _ {D : Type 0} (content : D → Option Image) (left : D → ℕ → Image
     asked_now = asked_on all rest more running.done order running.asked next
 
     served : BehindSince since start done_now held shown (left table'.log.disk)
-    served = behind_served since moment put_at start running.done order held output shown (left table.log.disk) (left table'.log.disk) running.reached.kept.entries running.reached.behind (leaves running.reached.kept running.reached.ready) running.reached.entries
+    served = behind_served since moment put_at start running.done order held output shown (left table.log.disk) (left table'.log.disk) running.reached.behind (leaves (after_all start running.done) running.reached.ready)
         running.reached.in_time now running.reached.text
 
     -- an order wasn't done
-    pub halts_served : (input : Option (List ℕ)) (moment' : ℕ) (faults : Faults) (stop : Stop)
-        → ((kept : Kept) → IsReady content left last kept table moment → stop ≢ Disk → Stores kept.entries (content table'.log.disk) (left table'.log.disk) (last table'.log.disk))
+    pub halts_served : (input : Option (List ℕ)) (moment' : ℕ) (faults : Faults) (stop : Stop) → (stop ≡ Line → ⊥)
+        → ((s : Standing) → IsReady content left last s table moment → stop ≢ Disk → Stores s (content table'.log.disk) (left table'.log.disk) (last table'.log.disk))
         → Halts since all held (view input output shown put_at moment' faults table') start stop
-    halts_served input moment' faults stop stored = record {
+    halts_served input moment' faults stop no_line stored = record {
       rest = more;
       done = done_now;
       told = told_now;
@@ -111,28 +108,46 @@ module _ {D : Type 0} (content : D → Option Image) (left : D → ℕ → Image
         first = running.done;
         later = order ∷ [];
         split = refl;
-        stores = subst (λ (es : List Entry). Stores es (content table'.log.disk) (left table'.log.disk) (last table'.log.disk)) running.reached.entries (stored running.reached.kept running.reached.ready other);
+        stores = stored (after_all start running.done) running.reached.ready other;
         front = no_more (replies 1 start running.done);
       };
+      whole = λ is. absurd (no_line is);
       behind = served;
     }
 
-    module _ (n moment' : ℕ) (number_is : n ≡ number + 1) (later : moment ≤ moment') (stands : Stands table') (reply : Reply)
-        (answers : (kept : Kept) → IsReady content left last kept table moment → Answers content left last (entries_with kept.entries order) (reply_to n kept.entries order) table' moment' reply) where
-      answered : Answers content left last (entries_with running.reached.kept.entries order) (reply_to n running.reached.kept.entries order) table' moment' reply
-      answered = answers running.reached.kept running.reached.ready
+    module _ (n moment' : ℕ) (number_is : n ≡ number + 1) (later : moment ≤ moment') (stands : Stands table') (reply : List ℕ)
+        (answers : (s : Standing) → IsReady content left last s table moment → Answers content left last (after s order) (reply_to n s order) table' moment' reply) where
+      answered : Answers content left last (after (after_all start running.done) order) (reply_to n (after_all start running.done) order) table' moment' reply
+      answered = answers (after_all start running.done) running.reached.ready
 
-      entries_now : answered.kept.entries ≡ entries_after start done_now
-      entries_now = answered.entries_are ∙ ap (λ (es : List Entry). entries_with es order) running.reached.entries ∙ sym (entries-push start running.done order)
+      ready_now : IsReady content left last (after_all start done_now) table' moment'
+      ready_now = subst (λ (s : Standing). IsReady content left last s table' moment') (sym (after-push start running.done order)) answered.ready
 
-      replies_now : replies 1 start done_now ≡ replies 1 start running.done ++ bytes_of reply
+      replies_now : replies 1 start done_now ≡ replies 1 start running.done ++ reply
       replies_now =
           let number_of : n ≡ 1 + length running.done = omega (arith, number_is, running.count) in
-          let text : bytes_of reply ≡ reply_to n (entries_after start running.done) order = answered.text ∙ ap (λ (es : List Entry). reply_to n es order) running.reached.entries in
-          replies-push n start running.done order number_of ∙ ap (λ (t : List ℕ). replies 1 start running.done ++ t) (sym text)
+          replies-push n start running.done order number_of ∙ ap (λ (t : List ℕ). replies 1 start running.done ++ t) (sym answered.text)
 
-      stays : (m : ℕ) (image : Image) → moment' ≤ m → left table'.log.disk m image → HasEntries image (entries_after start done_now)
-      stays m image le is = has_as image _ _ entries_now (stays_kept content left last answered.kept table'.log moment' stands answered.ready.log m image le is)
+      stays : (m : ℕ) (image : Image) → moment' ≤ m → left table'.log.disk m image → HasState image (after_all start done_now)
+      stays m image le is = stays_ready content left last (after_all start done_now) table' moment' stands ready_now m image le is
+
+      -- it has no reply
+      pub runs_quiet : length reply ≡ 0 → Running since start all more held n table' output shown put_at moment'
+      runs_quiet none =
+          let empty : reply ≡ [] = nil_from_length reply none in
+          let same : replies 1 start done_now ≡ replies 1 start running.done = replies_now ∙ ap (λ (t : List ℕ). replies 1 start running.done ++ t) empty ∙ append-nil (replies 1 start running.done) in
+          record {
+            done = done_now;
+            told = told_now;
+            asked = asked_now;
+            count = omega (arith, number_is, running.count, length-append running.done (order ∷ []));
+            reached = record {
+              ready = ready_now;
+              text = running.reached.text ∙ ap (λ (t : List ℕ). with_end t held) (sym same);
+              in_time = omega (arith, running.reached.in_time, later);
+              behind = served;
+            };
+          }
 
       module _ (shown' : ℕ → Option (List ℕ)) (put_at' moment'' : ℕ) (output' : Option (List ℕ)) (put : IsPut shown shown' put_at put_at' moment' moment'' output') where
         put_behind : (text : List ℕ) → output' ≡ with_end text held → IsFront text (replies 1 start done_now) → BehindSince since start done_now held shown' (left table'.log.disk)
@@ -144,18 +159,23 @@ module _ {D : Type 0} (content : D → Option Image) (left : D → ℕ → Image
         in_time_now = omega (arith, put.last_put, put.clock, running.reached.in_time, later)
 
         -- its reply is out
-        pub runs_on : (bytes : List ℕ) → bytes ≡ bytes_of reply → output' ≡ with_end bytes output → Running since start all more held n table' output' shown' put_at' moment''
-        runs_on bytes bytes_are out =
-            let text : output' ≡ with_end (replies 1 start done_now) held = out ∙ ap (λ (b : List ℕ). with_end b output) bytes_are ∙ ap (with_end (bytes_of reply)) running.reached.text ∙ with_end_twice held (replies 1 start running.done) (bytes_of reply) ∙ ap (λ (t : List ℕ). with_end t held) (sym replies_now) in
+        pub runs_on : output' ≡ with_end reply output → Running since start all more held n table' output' shown' put_at' moment''
+        runs_on out =
+            let text : output' ≡ with_end (replies 1 start done_now) held = out ∙ ap (with_end reply) running.reached.text ∙ with_end_twice held (replies 1 start running.done) reply ∙ ap (λ (t : List ℕ). with_end t held) (sym replies_now) in
             record {
               done = done_now;
               told = told_now;
               asked = asked_now;
               count = omega (arith, number_is, running.count, length-append running.done (order ∷ []));
               reached = record {
-                kept = answered.kept;
-                ready = record { log = record { placed = answered.ready.log.placed; settled = answered.ready.log.settled; keeps = answered.ready.log.keeps; in_time = omega (arith, answered.ready.log.in_time, put.clock) }; committed = answered.ready.committed };
-                entries = entries_now;
+                ready = record {
+                  kept = ready_now.kept;
+                  log = record { placed = ready_now.log.placed; settled = ready_now.log.settled; keeps = ready_now.log.keeps; in_time = omega (arith, ready_now.log.in_time, put.clock) };
+                  committed = ready_now.committed;
+                  rows = ready_now.rows;
+                  number = ready_now.number;
+                  session = ready_now.session;
+                };
                 text = text;
                 in_time = in_time_now;
                 behind = put_behind (replies 1 start done_now) text (no_more (replies 1 start done_now));
@@ -163,12 +183,12 @@ module _ {D : Type 0} (content : D → Option Image) (left : D → ℕ → Image
             }
 
         -- a part of its reply is out
-        pub halts_within : (input : Option (List ℕ)) (faults : Faults) (stop : Stop) (bytes : List ℕ) → bytes ≡ bytes_of reply → PutsPart output output' bytes
+        pub halts_within : (input : Option (List ℕ)) (faults : Faults) (stop : Stop) → (stop ≡ Line → ⊥) → PutsPart output output' reply
             → Halts since all held (view input output' shown' put_at' moment'' faults table') start stop
-        halts_within input faults stop bytes bytes_are part =
-            let text : List ℕ = replies 1 start running.done ++ take part.0 bytes in
-            let front : IsFront text (replies 1 start done_now) = subst (λ (t : List ℕ). IsFront text t) (sym (replies_now ∙ ap (λ (b : List ℕ). replies 1 start running.done ++ b) (sym bytes_are))) (front_part part.0 (replies 1 start running.done) bytes) in
-            let out : output' ≡ with_end text held = part.1 ∙ ap (with_end (take part.0 bytes)) running.reached.text ∙ with_end_twice held (replies 1 start running.done) (take part.0 bytes) in
+        halts_within input faults stop no_line part =
+            let text : List ℕ = replies 1 start running.done ++ take part.0 reply in
+            let front : IsFront text (replies 1 start done_now) = subst (λ (t : List ℕ). IsFront text t) (sym replies_now) (front_part part.0 (replies 1 start running.done) reply) in
+            let out : output' ≡ with_end text held = part.1 ∙ ap (with_end (take part.0 reply)) running.reached.text ∙ with_end_twice held (replies 1 start running.done) (take part.0 reply) in
             record {
               rest = more;
               done = done_now;
@@ -181,15 +201,16 @@ module _ {D : Type 0} (content : D → Option Image) (left : D → ℕ → Image
                 first = done_now;
                 later = [];
                 split = sym (append-nil done_now);
-                stores = subst (λ (es : List Entry). Stores es (content table'.log.disk) (left table'.log.disk) (last table'.log.disk)) entries_now (stores_kept content left last answered.kept table'.log moment' stands answered.ready.log);
+                stores = stores_ready content left last (after_all start done_now) table' moment' stands ready_now;
                 front = front;
               };
+              whole = λ is. absurd (no_line is);
               behind = put_behind text out front;
             }
 
   -- a run that stopped
-  pub runs_stopped : (table : Table D) (before after : Outside) (stop : Stop) → GoesOn before after → MayStop before.faults after.faults stop
-      → ((since : ℕ) (start : List Entry) → Reached content left last since before.output start [] table before.output before.shown before.put_at before.moment → Halts since before.input before.output after start stop)
+  pub runs_stopped : (table : Table D) (before after : Outside) (stop : Stop) → GoesOn before after → MayStop before.input before.faults after.faults stop
+      → ((since : ℕ) (start : Standing) → Reached content left last since before.output start [] table before.output before.shown before.put_at before.moment → Halts since before.input before.output after start stop)
       → (e : Stop) → e ≡ stop → (result : Result (Unit {0}) Stop) → result ≡ Err e → Runs content left last table before after result
   runs_stopped table before after stop goes_on cause halts e same result is =
       subst (λ (r : Result (Unit {0}) Stop). Runs content left last table before after r) (sym (is ∙ ap (λ (s : Stop). Err s) same)) (record {

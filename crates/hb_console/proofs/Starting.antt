@@ -16,21 +16,27 @@ use Rattle.hb_log.specs.declared.fault.LogFault.TheVariants as fault
 use Rattle.hb_log.specs.Log.{IsSameOrShort}
 use Rattle.hb_log.specs.Standing.{Breaks}
 use Rattle.hb_log.proofs.Readings.{never_both, one_reading}
-use Rattle.hb_table.specs.Log.{Kept, Keeps, IsTableLog, nothing_kept}
+use Rattle.hb_table.specs.Log.{Kept, Keeps, IsTableLog, StandsFor, nothing_kept, committed_rows}
+use Rattle.hb_table.specs.Run.{Standing}
+use Rattle.hb_table.specs.Table.{Entry, rows_of, stored}
 use Rattle.hb_console.specs.declared.stop.Stop.{Stop}
 use Rattle.hb_console.specs.declared.stop.Stop.TheVariants.{Damaged, Memory}
-use Rattle.hb_console.specs.Openings.{Fails, MayNotOpen, Stays}
-use Rattle.hb_console.specs.Replays.{Refuses}
+use Rattle.hb_console.specs.Openings.{Fails, ForLog, MayNotOpen, Stays, from_log}
+use Rattle.hb_console.specs.Stops.{Refuses}
 use Rattle.hb_console.specs.Stops.{log_stop}
-use Rattle.hb_console.specs.Tables.{HasEntries, IsNoTable, Stores, items_of}
+use Rattle.hb_console.specs.Tables.{HasState, IsNoTable, Stores, items_of}
 use Rattle.hb_console.proofs.Settled.{has_kept, one_kept, short_log, readable_long}
 
--- where the disk reads as a log, what is left has the same entries
-pub same_entries : OneForm IsBodyOf → (read image : Image) (kept : Kept) → IsTableLog read kept → IsSameOrShort read image → HasEntries image kept.entries
-same_entries one read image kept log (inl same) = subst (λ (i : Image). HasEntries i kept.entries) (sym same) (has_kept read kept log)
-same_entries one read image kept log (inr short) =
+-- a run that begins with what a log has come to
+pub begins_for : (kept : Kept) (entries : List Entry) → committed_rows kept ≡ stored (rows_of entries) → StandsFor kept (from_log kept entries)
+begins_for kept entries rows = record { rows = rows; number = refl }
+
+-- where the disk reads as a log, what is left has the same state
+pub same_state : OneForm IsBodyOf → (read image : Image) (kept : Kept) (s : Standing) → IsTableLog read kept → StandsFor kept s → IsSameOrShort read image → HasState image s
+same_state one read image kept s log stands (inl same) = subst (λ (i : Image). HasState i s) (sym same) (has_kept read kept s log stands)
+same_state one read image kept s log stands (inr short) =
     let nothing : nothing_kept ≡ kept = one_kept one read nothing_kept kept (short_log read short.0) log in
-    subst (λ (k : Kept). HasEntries image k.entries) nothing (has_kept image nothing_kept (short_log image short.1))
+    has_kept image nothing_kept s (short_log image short.1) (subst (λ (k : Kept). StandsFor k s) (sym nothing) stands)
 
 -- a log that is damaged is no log of the table
 pub broken : OneForm IsBodyOf → (read : Image) (at : ℕ) → 7 ≤ length read → Breaks read 0 at → IsNoTable read
@@ -70,7 +76,7 @@ module _ {D : Type 0} (content : D → Option Image) (left : D → ℕ → Image
   since was read is m image le now_left = (leaves read (told_old read is) (in_time was)).each m image (omega (arith, le, ticks)) now_left
 
   stays : last old ≤ before → Stays content left old new before
-  stays was = told_all (content old) _ (λ read is kept log m image le now_left. same_entries one read image kept log (since was read is m image le now_left))
+  stays was = told_all (content old) _ (λ read is kept entries log rows m image le now_left. same_state one read image kept (from_log kept entries) log (begins_for kept entries rows) (since was read is m image le now_left))
 
   -- and a long one is what it read
   long_since : last old ≤ before → (read : Image) → content old ≡ Some read → 7 ≤ length read → (m : ℕ) (image : Image) → last new ≤ m → left new m image → image ≡ read
@@ -88,14 +94,14 @@ module _ {D : Type 0} (content : D → Option Image) (left : D → ℕ → Image
     why fault.Closed is = absurd (not_closed is)
     why fault.NoMemory is = tt
 
-    stores : (g : LogFault) → f ≡ g → log_stop g ≡ Memory → last old ≤ before → IfSome (content old) (λ read. (kept : Kept) → IsTableLog read kept → Stores kept.entries (content new) (left new) (last new))
+    stores : (g : LogFault) → f ≡ g → log_stop g ≡ Memory → last old ≤ before → IfSome (content old) (λ read. ForLog read (λ start. Stores start (content new) (left new) (last new)))
     stores fault.Fault is same was = absurd (cc)
     stores (fault.Damaged place) is same was = absurd (cc)
     stores fault.Closed is same was = absurd (cc)
-    stores fault.NoMemory is same was = told_all (content old) _ (λ read told_is kept log.
+    stores fault.NoMemory is same was = told_all (content old) _ (λ read told_is kept entries log rows.
         let other : f ≡ fault.Fault → ⊥ = λ e. (let wrong : fault.NoMemory ≡ fault.Fault = sym is ∙ e in cc) in
         let long : 7 ≤ length read = ⊎_elim (λ s. absurd (other (short read (told_old read told_is) s))) (λ l. l) (cases_lt (length read) 7) in
-        record { image = read; told = content_same other ∙ told_old read told_is; has = has_kept read kept log; only = λ m image le now_left. long_since was read told_is long m image le now_left })
+        record { image = read; told = content_same other ∙ told_old read told_is; has = has_kept read kept (from_log kept entries) log (begins_for kept entries rows); only = λ m image le now_left. long_since was read told_is long m image le now_left })
 
     same : (g : LogFault) → f ≡ g → log_stop g ≡ Damaged → content new ≡ content old
     same fault.Fault is e = absurd (cc)
@@ -122,7 +128,7 @@ module _ {D : Type 0} (content : D → Option Image) (left : D → ℕ → Image
 
   -- the records were refused
   module _ (items : List Placed) (records : (read : Image) → content synced ≡ Some read → Records read 0 items) (content_long : (read : Image) → content synced ≡ Some read → 7 ≤ length read → content new ≡ Some read)
-      (stored : (kept : Kept) (read : Image) → content synced ≡ Some read → last synced ≤ mid → Keeps nothing_kept (items_of items) kept → Stores kept.entries (content new) (left new) (last new)) where
+      (stores_it : (kept : Kept) (s : Standing) (read : Image) → content synced ≡ Some read → last synced ≤ mid → Keeps nothing_kept (items_of items) kept → StandsFor kept s → Stores s (content new) (left new) (last new)) where
     keeps_of : (read : Image) → content old ≡ Some read → (kept : Kept) → IsTableLog read kept → Keeps nothing_kept (items_of items) kept
     keeps_of read is kept log =
         let placed : log.placed ≡ items = one_reading one (readable read) 0 log.placed items log.records (records read (told_old read is)) in
@@ -138,7 +144,7 @@ module _ {D : Type 0} (content : D → Option Image) (left : D → ℕ → Image
       told = told_new;
       count = omega (arith, synced_count, count);
       stays = λ was. inr (stays was);
-      stores = λ is was. told_all (content old) _ (λ read told_is kept log. stored kept read (told_old read told_is) (in_time was) (keeps_of read told_is kept log));
+      stores = λ is was. told_all (content old) _ (λ read told_is kept entries log rows. stores_it kept (from_log kept entries) read (told_old read told_is) (in_time was) (keeps_of read told_is kept log) (begins_for kept entries rows));
       same = λ is. absurd (cc);
       only = λ is was m image le now_left. absurd (cc);
     })

@@ -1,9 +1,9 @@
 pub mod Stops
 pub mod Outside
-pub mod Replies
+pub mod Edits
 pub mod Tables
 pub mod Replays
-pub mod Inserts
+pub mod Committing
 pub mod Openings
 pub mod Runs
 pub mod Ends

@@ -1,9 +1,11 @@
 -- What is told of a source, a sink and a disk at one moment.
-use Rattle.std.specs.Prelude.{◌≡◌, ℕ, ◌≤◌, List, Option, is_some}
+use Rattle.std.specs.Prelude.{◌≡◌, ℕ, ◌<◌, ◌≤◌, List, ◌∷◌, ◌++◌, length, Option, is_some, IfSome}
 use Rattle.hb_edge.specs.Causes.{Rose}
 use Rattle.hb_edge.specs.Images.{Image}
+use Rattle.hb_script.specs.Asks.{most_bytes}
+use Rattle.hb_table.specs.Lines.{lines_of}
 use Rattle.hb_console.specs.declared.stop.Stop.{Stop}
-use Rattle.hb_console.specs.declared.stop.Stop.TheVariants.{Usage, Source, Sink, Disk, Damaged, Memory}
+use Rattle.hb_console.specs.declared.stop.Stop.TheVariants.{Usage, Source, Sink, Disk, Damaged, Memory, Line}
 
 -- how often each has failed
 pub record Faults : Type 0 where
@@ -52,11 +54,20 @@ pub record GoesOn (before after : Outside) : Type 0 where
   pub output : is_some after.output ≡ is_some before.output
   pub content : is_some after.content ≡ is_some before.content
 
--- why a run of orders may stop: by a device only where its count rose
-abbrev pub MayStop : Faults → Faults → Stop → Type 0
-MayStop before after Usage = ⊥
-MayStop before after Source = Rose before.source after.source
-MayStop before after Sink = Rose before.sink after.sink
-MayStop before after Disk = Rose before.disk after.disk
-MayStop before after Damaged = ⊥
-MayStop before after Memory = Unit {0}
+-- a line of the input has more bytes than a line may have
+pub record HasLongLine (input : List ℕ) : Type 0 where
+  pub before : List (List ℕ)
+  pub line : List ℕ
+  pub others : List (List ℕ)
+  pub lines : lines_of input ≡ before ++ line ∷ others
+  pub long : most_bytes < length line
+
+-- why a run of orders over an input may stop: by a device only where its count rose, by a line only where one is too long
+abbrev pub MayStop : Option (List ℕ) → Faults → Faults → Stop → Type 0
+MayStop input before after Usage = ⊥
+MayStop input before after Source = Rose before.source after.source
+MayStop input before after Sink = Rose before.sink after.sink
+MayStop input before after Disk = Rose before.disk after.disk
+MayStop input before after Damaged = ⊥
+MayStop input before after Memory = Unit {0}
+MayStop input before after Line = IfSome input HasLongLine

@@ -34,7 +34,11 @@ pub(crate) fn open<D: Disk>(
         Err((fault, disk)) => return Err((Stop::from(fault), disk)),
     };
     match replay_all(alloc, log.items()) {
-        Ok(committed) => Ok(Table { log, committed }),
+        Ok(committed) => Ok(Table {
+            log,
+            committed,
+            session: None,
+        }),
         Err(stop) => Err((stop, log.into_disk())),
     }
 }

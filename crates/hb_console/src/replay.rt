@@ -1,21 +1,25 @@
 // The records of a log, gone over one by one.
-ghost use Rattle.std.specs.Prelude.{IfOk, IfErr};
-ghost use Rattle.hb_table.specs.Log.{Kept, Keeps, nothing_kept, prepare_of, commit_of, IsEntry};
-ghost use Rattle.hb_console.specs.Replays.{IsRead, Refuses, Takes};
+ghost use Rattle.std.specs.Prelude.{◌≡◌, map, IfOk, IfErr};
+ghost use Rattle.hb_types.specs.Lists.{Each};
+ghost use Rattle.hb_table.specs.Log.{Kept, Keeps, nothing_kept, prepare_of, commit_of};
+ghost use Rattle.hb_table.specs.Table.{change_of, IsEdit};
+ghost use Rattle.hb_console.specs.Replays.{IsRead, Takes};
+ghost use Rattle.hb_console.specs.Stops.{Refuses};
 ghost use Rattle.hb_console.specs.Tables.{Reflects, items_of};
 
 use crate::Stop;
-use crate::table::{Committed, add_row, is_taken};
-use crate::votes::voted_row;
-use hb_types::{LogItem, Number, Placed, Text, Tx};
+use crate::edits::edits_of;
+use crate::table::{Committed, edit_rows};
+use hb_table::Edit;
+use hb_types::{Change, Held, LogItem, Number, Placed, Tx};
 use std::alloc::Global;
 use std::collections::BTreeMap;
 
-/// What is committed so far, and the row of a vote whose commit hasn't come.
+/// What is committed so far, and the edits of a vote whose commit hasn't come.
 #[derive(Drop)]
 pub struct Replay {
     pub committed: Committed,
-    pub voted: Option<(i32, Text)>,
+    pub voted: Option<Vec<Edit>>,
 }
 
 impl Replay {
@@ -33,14 +37,14 @@ impl Replay {
     }
 
     /// Takes a vote: its transaction is a new one, and its floor is the number before.
-    fn vote(&mut self, tx: Tx, floor: Number, row: (i32, Text)) -> Result<(), Stop>
-        ensures { IsEntry row → Takes (prepare_of tx.0 floor.0 row) self.old self.new result }
+    fn vote(&mut self, tx: Tx, floor: Number, edits: Vec<Edit>) -> Result<(), Stop>
+        ensures { Each IsEdit edits.items → Takes (prepare_of tx.0 floor.0 (map change_of edits.items)) self.old self.new result }
     {
         if tx.0 <= self.committed.tx || floor.0 != self.committed.number {
             return Err(Stop::Damaged);
         }
         self.committed.tx = tx.0;
-        self.voted = Some(row);
+        self.voted = Some(edits);
         Ok(())
     }
 
@@ -51,15 +55,30 @@ impl Replay {
         if tx.0 != self.committed.tx || number.0 == 0 || number.0 - 1 != self.committed.number {
             return Err(Stop::Damaged);
         }
-        let Some((key, text)) = self.voted.take() else {
+        let Some(edits) = self.voted.take() else {
             return Err(Stop::Damaged);
         };
-        if is_taken(&self.committed.rows, key) {
-            return Err(Stop::Damaged);
-        }
-        add_row(&mut self.committed.rows, key, text)?;
+        edit_rows(&mut self.committed.rows, edits)?;
         self.committed.number = number.0;
         Ok(())
+    }
+
+    /// Takes a vote that takes no locks, whose changes are all of the table.
+    fn take_vote(
+        &mut self,
+        alloc: Global,
+        tx: Tx,
+        floor: Number,
+        locks: &[Held],
+        changes: &[Change],
+    ) -> Result<(), Stop>
+        ensures { Takes (LogItem.Prepare tx floor locks.now changes.now) self.old self.new result }
+    {
+        if locks.len() > 0 {
+            return Err(Stop::Damaged);
+        }
+        let edits = edits_of(alloc, changes)?;
+        self.vote(tx, floor, edits)
     }
 
     /// Takes the next record.
@@ -72,10 +91,7 @@ impl Replay {
                 floor,
                 locks,
                 changes,
-            } => {
-                let row = voted_row(alloc, locks.as_slice(), changes.as_slice())?;
-                self.vote(*tx, *floor, row)
-            }
+            } => self.take_vote(alloc, *tx, *floor, locks.as_slice(), changes.as_slice()),
             LogItem::Commit { tx, number } => self.commit(*tx, *number),
             LogItem::Abort { .. } | LogItem::Decision { .. } | LogItem::Ids { .. } => {
                 Err(Stop::Damaged)

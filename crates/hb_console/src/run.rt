@@ -4,13 +4,11 @@ ghost use Rattle.hb_edge.specs.Moments.{tick};
 ghost use Rattle.hb_edge.specs.Streams.{with_end, with_front, PutsPart};
 ghost use Rattle.hb_script.specs.Scripts.{NextOrder};
 ghost use Rattle.hb_console.specs.Outside.{seen};
-ghost use Rattle.hb_console.specs.Replies.{bytes_of};
 ghost use Rattle.hb_console.specs.Runs.{Runs};
-ghost use Rattle.hb_console.specs.Stops.{StopsBy};
+ghost use Rattle.hb_console.specs.Stops.{StopsBy, StopsReading};
 
 use crate::Stop;
 use crate::orders::serve;
-use crate::reply::Reply;
 use crate::table::Table;
 use hb_edge::{Clock, Disk, Failed, Sink, Source};
 use hb_script::{ScriptReader, lines};
@@ -18,16 +16,20 @@ use hb_table::Order;
 use std::alloc::Global;
 
 /// Puts a reply.
-pub(crate) fn put_reply<O: Sink>(sink: &mut O, clock: &mut Clock, reply: Reply) -> Result<(), Stop>
-    ensures all { OnOk result (O.held sink.new ≡ with_end (bytes_of reply) (O.held sink.old)) }
-    ensures part { OnErr result (PutsPart (O.held sink.old) (O.held sink.new) (bytes_of reply)) }
+pub(crate) fn put_reply<O: Sink>(
+    sink: &mut O,
+    clock: &mut Clock,
+    reply: Vec<u8>,
+) -> Result<(), Stop>
+    ensures all { OnOk result (O.held sink.new ≡ with_end reply.items (O.held sink.old)) }
+    ensures part { OnErr result (PutsPart (O.held sink.old) (O.held sink.new) reply.items) }
     ensures told { is_some (O.held sink.new) ≡ is_some (O.held sink.old) }
     ensures before { (m : ℕ) → m < clock.new → O.shown sink.new m ≡ O.shown sink.old m }
     ensures clock { clock.new ≡ tick clock.old }
     ensures last { O.last sink.new ≡ max (O.last sink.old) clock.new }
     ensures cause { StopsBy Stop.Sink (O.faults sink.old) (O.faults sink.new) result }
 {
-    match sink.put(clock, reply.as_slice()) {
+    match sink.put(clock, &reply) {
         Ok(()) => Ok(()),
         Err(Failed) => Err(Stop::Sink),
     }
@@ -41,7 +43,7 @@ fn next_order<S: Source>(
 ) -> Result<Option<Order>, Stop>
     ensures next { IfOk result (λ found. NextOrder found (with_front reader.old (S.left source.old)) (with_front reader.new (S.left source.new))) }
     ensures bound { IfOk result (λ found. OnSome found (length reader.new + S.bound source.new < length reader.old + S.bound source.old)) }
-    ensures cause { StopsBy Stop.Source (S.faults source.old) (S.faults source.new) result }
+    ensures cause { StopsReading (S.faults source.old) (S.faults source.new) (with_front reader.old (S.left source.old)) result }
 {
     match reader.next_order(alloc, source) {
         Ok(found) => Ok(found),
@@ -76,8 +78,11 @@ pub(crate) fn run_orders<S: Source, O: Sink, D: Disk>(
     'script: while let Some(order) = next_order(alloc, &mut reader, source)? {
         number = number_after(number)?;
         let reply = serve(alloc, table, number, order, clock)?;
+        if reply.len() < 1 {
+            continue;
+        }
         put_reply(sink, clock, reply)?;
     }
-    let last = Reply::Line(lines(alloc, number)?);
-    put_reply(sink, clock, last)
+    let last = lines(alloc, number)?;
+    put_reply(sink, clock, last.into_bytes())
 }

@@ -18,6 +18,8 @@ pub enum Stop {
     Disk,
     Damaged,
     Memory,
+    /// A line of more than 8,192 bytes.
+    Line,
 }
 
 impl Stop {
@@ -32,6 +34,7 @@ impl Stop {
             Stop::Disk => 5,
             Stop::Damaged => 6,
             Stop::Memory => 7,
+            Stop::Line => 8,
         }
     }
 }
@@ -47,6 +50,7 @@ pub fn status_word(status: u8) -> &'static str
         5 => "disk",
         6 => "damaged",
         7 => "memory",
+        8 => "line",
         _ => "",
     }
 }
@@ -59,6 +63,7 @@ impl From<ScriptFault> for Stop {
     fn from(fault: ScriptFault) -> Self {
         match fault {
             ScriptFault::Source => Stop::Source,
+            ScriptFault::TooLong => Stop::Line,
             ScriptFault::NoMemory => Stop::Memory,
         }
     }

@@ -1,12 +1,11 @@
-// The table in memory: its committed rows by key, the greatest numbers of its log, and the log.
+// The table in memory: its committed rows by key, the greatest numbers of its log, the session, and the log.
 ghost use Rattle.std.specs.Prelude.{◌≡◌, ◌+◌, ◌≤◌, ◌^◌, IfOk, IfErr, OnOk};
-ghost use Rattle.std.specs.Ordering.{int_cmp};
-ghost use Rattle.std.specs.BTreeMap.{insert_entry};
-ghost use Rattle.hb_table.specs.Table.{has_key};
+ghost use Rattle.hb_table.specs.Table.{edited, put_text};
 
 use crate::Stop;
 use hb_edge::Disk;
 use hb_log::Log;
+use hb_table::Edit;
 use hb_types::{NoMemory, Text};
 use std::alloc::Global;
 use std::collections::BTreeMap;
@@ -22,35 +21,63 @@ pub struct Committed {
     pub number: u64,
 }
 
-/// What a log has committed, and the log.
+/// What a log has committed, the log, and the session of the run, once it has one.
 #[derive(Drop)]
 pub struct Table<D: Disk> {
     pub log: Log<D>,
     pub committed: Committed,
+    pub session: Option<Text>,
 }
 
 impl<D: Disk> Table<D> {
     pub(crate) fn into_disk(self) -> D
         ensures { result ≡ self.log.disk }
     {
-        let Table { log, committed: _ } = self;
+        let Table {
+            log,
+            committed: _,
+            session: _,
+        } = self;
         log.into_disk()
     }
 }
 
-/// Whether a row has the key.
-#[tactic(auto, using(crate::proofs::Rows::has_lookup))]
-pub(crate) fn is_taken(rows: &BTreeMap<i32, Text>, key: i32) -> bool
-    ensures { result ≡ has_key key rows.now.entries }
-{
-    rows.contains_key(&key)
-}
-
-/// Adds a row whose key isn't there.
-pub(crate) fn add_row(rows: &mut BTreeMap<i32, Text>, key: i32, text: Text) -> Result<(), NoMemory>
-    ensures { OnOk result (rows.new.entries ≡ insert_entry int_cmp rows.old.entries key text) }
+/// Puts a text at its key.
+fn put(rows: &mut BTreeMap<i32, Text>, key: i32, text: Text) -> Result<(), NoMemory>
+    ensures { OnOk result (rows.new.entries ≡ put_text rows.old.entries key (Some text)) }
 {
     rows.insert(key, text)?;
+    Ok(())
+}
+
+/// Takes the row of a key out.
+fn take_out(rows: &mut BTreeMap<i32, Text>, key: i32)
+    ensures { rows.new.entries ≡ put_text rows.old.entries key None }
+{
+    let _ = rows.remove(&key);
+}
+
+/// Makes one edit.
+fn edit_row(rows: &mut BTreeMap<i32, Text>, edit: Edit) -> Result<(), NoMemory>
+    ensures { OnOk result (rows.new.entries ≡ put_text rows.old.entries edit.key edit.text) }
+{
+    let Edit { key, text } = edit;
+    match text {
+        Some(text) => put(rows, key, text),
+        None => {
+            take_out(rows, key);
+            Ok(())
+        }
+    }
+}
+
+/// Makes edits one after another.
+pub(crate) fn edit_rows(rows: &mut BTreeMap<i32, Text>, edits: Vec<Edit>) -> Result<(), NoMemory>
+    ensures { OnOk result (rows.new.entries ≡ edited rows.old.entries edits.items) }
+{
+    'edits: for edit in edits {
+        edit_row(rows, edit)?;
+    }
     Ok(())
 }
 

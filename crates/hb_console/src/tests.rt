@@ -176,11 +176,98 @@ fn an_empty_script_and_a_line_that_is_not_built(rt: HostRuntime) -> Result<(), F
     let left = run(rt.alloc(), b"", b"", NONE)?;
     assert_eq!(rt; left.status, 0);
     assert_eq!(rt; left.text.as_slice(), b"LINES 0\n".as_slice());
-    let left = run(rt.alloc(), b"x", b"", NONE)?;
+    let left = run(rt.alloc(), b"s1: COMMIT", b"", NONE)?;
     assert_eq!(rt; left.status, 0);
     assert_eq!(rt;
         left.text.as_slice(),
         b"LINE 1 NOT BUILT\nLINES 1\n".as_slice()
+    );
+    Ok(())
+}
+
+/// A script over an empty disk, and what it prints.
+fn prints(alloc: Global, script: &[u8], text: &[u8]) -> Result<bool, NoMemory> {
+    let left = run(alloc, script, b"", NONE)?;
+    Ok(left.status == 0 && left.text.as_slice() == text)
+}
+
+#[test]
+fn an_update_of_no_row_is_committed(rt: HostRuntime) -> Result<(), Fail> {
+    assert!(rt;
+        prints(
+            rt.alloc(),
+            b"s1: UPDATE T SET V = 'z' WHERE K > 9",
+            b"s1 UPDATED 0\ns1 COMMITTED 1\nLINES 1\n",
+        )?
+    );
+    Ok(())
+}
+
+#[test]
+fn lines_that_are_no_lines(rt: HostRuntime) -> Result<(), Fail> {
+    assert!(rt;
+        prints(
+            rt.alloc(),
+            b"s1: SELEC * FROM T\ns1: SELECT FROM T\n-- a comment\n\n \t\n# another\ns1: INSERT INTO T VALUES (1\nx",
+            b"LINE 1 SYNTAX 5\nLINE 2 SYNTAX 12\nLINE 7 SYNTAX 28\nLINE 8 SYNTAX 2\nLINES 8\n",
+        )?
+    );
+    Ok(())
+}
+
+#[test]
+fn the_longest_line(rt: HostRuntime) -> Result<(), Fail> {
+    for (more, status, text) in [
+        (8190, 0, b"LINES 1\n".as_slice()),
+        (8191, 8, b"".as_slice()),
+    ] {
+        let mut script = Vec::from_slice(rt.alloc(), b"--".as_slice())?;
+        let rest = vec![in rt.alloc(); b'x'; more]?;
+        script.extend_from_slice(rest.as_slice())?;
+        let left = run(rt.alloc(), script.as_slice(), b"", NONE)?;
+        assert_eq!(rt; left.status, status);
+        assert_eq!(rt; left.text.as_slice(), text);
+        script.extend_from_slice(b"\r\n")?;
+        let left = run(rt.alloc(), script.as_slice(), b"", NONE)?;
+        assert_eq!(rt; left.status, status);
+        assert_eq!(rt; left.text.as_slice(), text);
+    }
+    assert_eq!(rt; status_word(8), "line");
+    Ok(())
+}
+
+#[test]
+fn edges_of_integer(rt: HostRuntime) -> Result<(), Fail> {
+    assert!(rt;
+        prints(
+            rt.alloc(),
+            b"s1: INSERT INTO T VALUES (-1, 'a')\ns1: INSERT INTO T VALUES (2147483647, 'b')\ns1: INSERT INTO T VALUES (-2147483648, 'c')\ns1: INSERT INTO T VALUES (2147483648, 'd')\ns1: SELECT K FROM T\n",
+            b"s1 INSERTED 1\ns1 COMMITTED 1\ns1 INSERTED 1\ns1 COMMITTED 2\ns1 INSERTED 1\ns1 COMMITTED 3\ns1 OVERFLOW\ns1 ROW -2147483648\ns1 ROW -1\ns1 ROW 2147483647\ns1 ROWS 3\nLINES 5\n",
+        )?
+    );
+    Ok(())
+}
+
+#[test]
+fn refusals_of_statements(rt: HostRuntime) -> Result<(), Fail> {
+    assert!(rt;
+        prints(
+            rt.alloc(),
+            b"s1: INSERT INTO T VALUES (1, 'abcdefghijKLMNOP01890')\ns1: INSERT INTO T VALUES (1)\ns1: UPDATE T SET K = 2\ns1: SELECT Q FROM T\ns1: DELETE FROM U\ns1: UPDATE T SET V = 'a', V = 'b'\ns1: SELECT * FROM T WHERE K = 'a'\ns1: SELECT * FROM T WHERE K = 2147483648\n",
+            b"s1 TOO LONG\ns1 WRONG TYPE\ns1 KEY FIXED\ns1 NO COLUMN\ns1 NO TABLE\ns1 COLUMN TWICE\ns1 WRONG TYPE\ns1 OVERFLOW\nLINES 8\n",
+        )?
+    );
+    Ok(())
+}
+
+#[test]
+fn one_session_and_its_rows(rt: HostRuntime) -> Result<(), Fail> {
+    assert!(rt;
+        prints(
+            rt.alloc(),
+            b"s9: COMMIT\ns1: INSERT INTO T VALUES (2, 'a\"b')\ns2: SELECT * FROM T\ns1: INSERT INTO T VALUES (1, '')\ns1: SELECT V FROM T\ns1: UPDATE T SET V = 'x' WHERE K = 2\ns1: DELETE FROM T WHERE V = ''\ns1: SELECT * FROM T;\ns1: SELECT SUM(K) FROM T\n",
+            b"LINE 1 NOT BUILT\ns1 INSERTED 1\ns1 COMMITTED 1\nLINE 3 NOT BUILT\ns1 INSERTED 1\ns1 COMMITTED 2\ns1 ROW \"\"\ns1 ROW \"a\"\"b\"\ns1 ROWS 2\ns1 UPDATED 1\ns1 COMMITTED 3\ns1 DELETED 1\ns1 COMMITTED 4\ns1 ROW 2,x\ns1 ROWS 1\ns1 ROW 2\ns1 ROWS 1\nLINES 9\n",
+        )?
     );
     Ok(())
 }

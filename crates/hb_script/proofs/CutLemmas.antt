@@ -4,7 +4,7 @@ use Rattle.std.specs.Prelude.{Some, None}
 use Rattle.std.specs.Option.{option_map}
 use Rattle.std.specs.declared.option.Option.{Option}
 use Rattle.std.proofs.lemmas.List.{append-nil, drop_more, drop_all, take_more}
-use Rattle.hb_table.proofs.OrderOf.{behind, cut_at}
+use Rattle.hb_table.proofs.Cuts.{behind, cut_at}
 use Rattle.hb_table.proofs.SplitLemmas.{cut_front, cut_later}
 
 behind_twice : (front : List ℕ) (x : ℕ) (o : Option (List ℕ × List ℕ)) → option_map (behind front) (option_map (behind (x ∷ [])) o) ≡ option_map (behind (front ++ x ∷ [])) o

@@ -1,61 +1,15 @@
--- The kept front of a line says what the line asks, and how bytes are kept and passed.
-use Rattle.std.proofs.Common.{◌≡◌, ℕ, ◌+◌, ◌-◌, ◌<◌, ◌≤◌, List, [], ◌∷◌, ◌++◌, length, take, drop, refl, sym, ◌∙◌, ap, subst, arith, inl, inr, length-append}
-use Rattle.std.specs.Prelude.{min, Some}
-use Rattle.std.proofs.lemmas.List.{take_all, drop-take, drop-drop, length-take, take-append-le}
-use Rattle.std.proofs.Math.Seq.{take-append-add, drop-append-add}
-use Rattle.std.proofs.lemmas.Bool.{cases_lt}
-use Rattle.hb_table.specs.declared.order.Order.{Order}
-use Rattle.hb_table.specs.declared.order.Order.TheVariants.{NotBuilt}
-use Rattle.hb_table.specs.Lines.{without_return}
-use Rattle.hb_table.specs.Orders.{Asks}
-use Rattle.hb_table.proofs.OrderOf.{cut_at}
-use Rattle.hb_table.proofs.OrderLemmas.{order_is, long_asks_nothing}
-use Rattle.hb_table.proofs.SplitLemmas.{cut_sound, cut_clean}
-use Rattle.hb_table.proofs.LineLemmas.{return_length}
+-- How bytes are passed, and what a cut says.
+use Rattle.std.proofs.Common.{◌≡◌, ℕ, ◌+◌, ◌-◌, ◌<◌, ◌≤◌, List, [], ◌∷◌, ◌++◌, length, take, drop, refl, sym, ◌∙◌, ap, arith, length-append, append_assoc}
+use Rattle.std.specs.Prelude.{Some, None, Option}
+use Rattle.std.proofs.lemmas.List.{drop-take, drop-drop, length-take}
+use Rattle.std.proofs.Math.Seq.{drop-append-add}
+use Rattle.hb_table.specs.Lines.{lines_of, without_return}
+use Rattle.hb_table.proofs.Cuts.{cut_at}
+use Rattle.hb_table.proofs.SplitLemmas.{cut_sound, cut_clean, cut_none}
+use Rattle.hb_table.proofs.LineLemmas.{return_length, no_feed_append, front_line, only_line}
+use Rattle.hb_script.specs.Asks.{most_bytes}
 use Rattle.hb_script.specs.Parts.{NoFeed}
-
--- a line that is longer than its front asks nothing that is built, and neither does its front
-pub front_asks : (part : List ℕ) (order : Order) → Asks (without_return (take 64 part)) order → Asks (without_return part) order
-front_asks part order asks = elim (cases_lt 64 (length part)) [
-  | inl long ↦
-      let front_long : 62 < length (without_return (take 64 part)) = omega (arith, return_length (take 64 part), length-take 64 part) in
-      let line_long : 62 < length (without_return part) = omega (arith, return_length part) in
-      let same : NotBuilt ≡ order = sym (order_is _ NotBuilt (long_asks_nothing _ front_long)) ∙ order_is _ order asks in
-      subst (λ (o : Order). Asks (without_return part) o) same (long_asks_nothing _ line_long)
-  | inr few ↦ subst (λ (l : List ℕ). Asks (without_return l) order) (take_all 64 part few) asks
-]
-
--- ---- keeping
-
-pub keep_is : (front bytes : List ℕ) (n : ℕ) → length front ≤ 64 → n ≡ min (64 - length front) (length bytes) → front ++ take n bytes ≡ take 64 (front ++ bytes)
-keep_is front bytes n few is = elim (cases_lt (length bytes) (64 - length front)) [
-  | inl short ↦
-      ap (λ (l : List ℕ). front ++ l) (take_all n bytes (omega arith))
-      ∙ sym (take_all 64 (front ++ bytes) (omega (arith, length-append front bytes)))
-  | inr more ↦
-      let room : 64 ≡ length front + n = omega arith in
-      sym (ap (λ (k : ℕ). take k (front ++ bytes)) room ∙ take-append-add front bytes n)
-]
-
-pub keep_twice : (part bytes : List ℕ) → take 64 (take 64 part ++ bytes) ≡ take 64 (part ++ bytes)
-keep_twice part bytes = elim (cases_lt 64 (length part)) [
-  | inl long ↦
-      take-append-le 64 (take 64 part) bytes (omega (arith, length-take 64 part))
-      ∙ take_all 64 (take 64 part) (omega (arith, length-take 64 part))
-      ∙ sym (take-append-le 64 part bytes (omega arith))
-  | inr few ↦ ap (λ (l : List ℕ). take 64 (l ++ bytes)) (take_all 64 part few)
-]
-
-pub kept_few : (front part : List ℕ) → front ≡ take 64 part → length front ≤ 64
-kept_few front part kept = omega (arith, ap length kept, length-take 64 part)
-
-pub kept_none : (front part : List ℕ) → front ≡ take 64 part → length front < 1 → part ≡ []
-kept_none front [] kept none = refl
-kept_none front (b ∷ part) kept none = absurd (omega (arith, ap length kept, length-take 64 (b ∷ part)))
-
-pub kept_some : (front part : List ℕ) → front ≡ take 64 part → 1 ≤ length front → 0 < length part
-kept_some front [] kept some = absurd (omega (arith, ap length kept, length-take {A = ℕ} 64 []))
-kept_some front (b ∷ part) kept some = omega arith
+use Rattle.hb_script.specs.Scripts.{IsTooLong}
 
 -- ---- passing
 
@@ -81,3 +35,25 @@ cut_is bytes front rest is =
       behind = ap (drop (length front + 1)) split ∙ drop-append-add front (10 ∷ rest) 1;
       within = omega (arith, ap length split, length-append front (10 ∷ rest));
     }
+
+-- ---- lines that are too long
+
+-- a line that begins with so many bytes is too long, whatever follows
+pub long_first : (part rest : List ℕ) → NoFeed part → most_bytes + 1 < length part → IsTooLong (part ++ rest)
+long_first part rest clean long = by (cut_at 10 rest) refl
+  where
+    by : (o : Option (List ℕ × List ℕ)) → cut_at 10 rest ≡ o → IsTooLong (part ++ rest)
+    by None is = record {
+      line = without_return (part ++ rest);
+      others = [];
+      lines = only_line (part ++ rest) (no_feed_append part rest clean (cut_none 10 rest is)) (omega (arith, long, length-append part rest));
+      long = omega (arith, long, return_length (part ++ rest), length-append part rest);
+    }
+    by (Some parts) is =
+        let split : part ++ rest ≡ (part ++ parts.0) ++ 10 ∷ parts.1 = ap (λ (l : List ℕ). part ++ l) (cut_sound 10 rest parts is) ∙ sym (append_assoc part parts.0 (10 ∷ parts.1)) in
+        record {
+          line = without_return (part ++ parts.0);
+          others = lines_of parts.1;
+          lines = ap lines_of split ∙ front_line (part ++ parts.0) parts.1 (no_feed_append part parts.0 clean (cut_clean 10 rest parts is));
+          long = omega (arith, long, return_length (part ++ parts.0), length-append part parts.0);
+        }

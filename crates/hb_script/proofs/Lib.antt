@@ -1,5 +1,6 @@
 pub mod CutLemmas
 pub mod FrontLemmas
-pub mod NumberLemmas
-pub mod ReadingLemmas
 pub mod ReturnLemmas
+pub mod Causes
+pub mod ReadingLemmas
+pub mod OrderLemmas

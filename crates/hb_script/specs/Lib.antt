@@ -1,2 +1,4 @@
+pub mod Asks
+pub mod Answered
 pub mod Scripts
 pub mod Parts

@@ -1,7 +1,7 @@
-// Fronts and cuts of byte strings.
+// Cuts of byte strings.
 ghost use Rattle.std.specs.Prelude.{◌≡◌};
 ghost use Rattle.std.specs.Option.{option_map};
-ghost use Rattle.hb_table.proofs.OrderOf.{strip, cut_at};
+ghost use Rattle.hb_table.proofs.Cuts.{cut_at};
 
 /// What stands before the first such byte, and what stands behind it.
 #[tactic(auto, using(crate::proofs::CutLemmas::cut_here, crate::proofs::CutLemmas::cut_more, crate::proofs::CutLemmas::cut_start, crate::proofs::CutLemmas::cut_none))]
@@ -14,15 +14,4 @@ pub(crate) fn split_at_byte(bytes: &[u8], byte: u8) -> Option<(&[u8], &[u8])>
         }
     }
     None
-}
-
-/// What follows a front.
-pub(crate) fn strip_front<'a>(bytes: &'a [u8], front: &[u8]) -> Option<&'a [u8]>
-    ensures { option_map (λ p. p.now) result ≡ strip front.now bytes.now }
-{
-    if bytes.starts_with(front) {
-        Some(&bytes[front.len()..])
-    } else {
-        None
-    }
 }

@@ -9,6 +9,8 @@ use std::alloc::{AllocError, AllocFailed};
 #[derive(Clone, Copy, Debug, PartialEq, Eq)]
 pub enum ScriptFault {
     Source,
+    /// A line of more than 8,192 bytes.
+    TooLong,
     NoMemory,
 }
 

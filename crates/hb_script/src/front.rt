@@ -1,24 +1,22 @@
-// The front of a line that is kept, and what it says of the line.
-ghost use Rattle.std.specs.Prelude.{◌≡◌, ◌≤◌, ◌++◌, length, take, IfOk, OnOk};
+// A line that was taken whole, and what it asks.
+ghost use Rattle.std.specs.Prelude.{◌≡◌, ◌+◌, ◌<◌, nat_lt, length, IfOk, IsErrOf};
 ghost use Rattle.hb_table.specs.Lines.{without_return};
-ghost use Rattle.hb_table.specs.Orders.{Asks};
+ghost use Rattle.hb_script.specs.Asks.{Asks, most_bytes};
+ghost use Rattle.hb_script.specs.Scripts.{AsksOr};
 
+use crate::ScriptFault;
 use crate::line::read_line;
 use hb_table::Order;
-use hb_types::NoMemory;
 use std::alloc::Global;
 
-/// One more than the longest form and its carriage return have.
-const KEPT: usize = 64;
+/// The most bytes of a line, without its end.
+const MOST: usize = 8192;
 
-/// Adds to the front of a line, of which so much is kept.
-pub(crate) fn keep(front: &mut Vec<u8>, bytes: &[u8]) -> Result<(), NoMemory>
-    requires { length front.old.items ≤ 64 }
-    ensures { OnOk result (front.new.items ≡ take 64 (front.old.items ++ bytes.now)) }
+/// Whether more bytes were taken than a line and its carriage return may have.
+pub(crate) fn is_past_the_most(front: &[u8]) -> bool
+    ensures { result ≡ nat_lt (most_bytes + 1) (length front.now) }
 {
-    let count = bytes.len().min(KEPT - front.len());
-    front.extend_from_slice(&bytes[..count])?;
-    Ok(())
+    front.len() > MOST + 1
 }
 
 /// Without the carriage return at the end.
@@ -34,9 +32,25 @@ fn without_last_return(part: &[u8]) -> &[u8]
     }
 }
 
-/// What a line asks, by its front.
-pub(crate) fn kept_order(alloc: Global, front: &[u8]) -> Result<Order, NoMemory>
-    ensures { IfOk result (Asks (without_return front.now)) }
+/// What a line asks that was taken up to its end.
+fn whole_line(alloc: Global, front: &[u8]) -> Result<Order, ScriptFault>
+    ensures asks { IfOk result (Asks (without_return front.now)) }
+    ensures too_long { IsErrOf result ScriptFault.TooLong → most_bytes < length (without_return front.now) }
+    ensures other { IsErrOf result ScriptFault.Source → ⊥ }
 {
-    read_line(alloc, without_last_return(front))
+    let line = without_last_return(front);
+    if line.len() > MOST {
+        return Err(ScriptFault::TooLong);
+    }
+    Ok(read_line(alloc, line)?)
+}
+
+/// The same, as the next order of a script.
+pub(crate) fn some_line(alloc: Global, front: &[u8]) -> Result<Option<Order>, ScriptFault>
+    ensures { AsksOr (without_return front.now) result }
+{
+    match whole_line(alloc, front) {
+        Ok(order) => Ok(Some(order)),
+        Err(fault) => Err(fault),
+    }
 }

@@ -1,6 +1,7 @@
 //! Scripts: their lines taken from a source in pieces, what each line asks, and the texts of replies.
 #![tactic(auto)]
 
+mod csv;
 mod cut;
 mod fault;
 mod front;
@@ -13,4 +14,4 @@ mod tests;
 pub use fault::ScriptFault;
 pub use line::read_line;
 pub use reader::ScriptReader;
-pub use replies::{TAKEN, inserted, lines, not_built, rows, taken};
+pub use replies::{lines, not_built, reply, syntax};

@@ -1,122 +1,120 @@
 // What a line of a script asks.
-ghost use Rattle.std.specs.Prelude.{◌≡◌, ◌≤◌, length, IfOk, IfSome};
-ghost use Rattle.std.specs.Option.{option_map};
-ghost use Rattle.std.specs.List.{list_all};
-ghost use Rattle.hb_table.specs.Orders.{Asks, is_alphanumeric as alphanumeric};
-ghost use Rattle.hb_table.proofs.OrderOf.{natural_of, integer_of, number_of, is_text as text_of, row_of, order_of};
+ghost use Rattle.std.specs.Prelude.{◌≡◌, ◌≤◌, ◌||◌, nat_eq, codes, length, IfOk};
+ghost use Rattle.std.specs.List.{list_all, starts_with};
+ghost use Rattle.hb_script.specs.Asks.{Asks, is_idle as idle, is_on_rows as on_rows, order_of_work as order_by_work, order_of, most_bytes};
+ghost use Rattle.hb_sqltoken.specs.Kinds.{is_blank as blank};
 
-use crate::cut::{split_at_byte, strip_front};
+use hb_model::{Item, Statement, Work};
+use hb_sqlparse::{ParseFault, parse};
 use hb_table::Order;
 use hb_types::{NoMemory, Text};
 use std::alloc::Global;
 
-const INSERT: &[u8] = b"s1: INSERT INTO T VALUES (";
-
-const SELECT: &[u8] = b"s1: SELECT * FROM T";
-
-/// The number that 1 to 10 digits stand for.
-fn natural(digits: &[u8]) -> Option<u64>
-    ensures value { result ≡ natural_of digits.now }
+#[tactic(auto, unfolding(hb_sqltoken::specs::Kinds::is_blank))]
+fn is_blank(b: u8) -> bool
+    ensures { result ≡ blank b }
 {
-    if digits.is_empty() || digits.len() > 10 {
-        return None;
-    }
-    let mut n: u64 = 0;
-    for digit in digits {
-        if !digit.is_ascii_digit() {
-            return None;
-        }
-        n = n * 10 + u64::from(*digit - b'0');
-    }
-    Some(n)
+    b == b' ' || b == b'\t'
 }
 
-/// An INTEGER, by its sign and its absolute value.
-fn integer(minus: bool, n: u64) -> Option<i32>
-    ensures { result ≡ integer_of minus n }
+fn is_all_blank(line: &[u8]) -> bool
+    ensures { result ≡ list_all blank line.now }
 {
-    if minus {
-        if n <= 1 << 31 {
-            Some((-(n as i64)) as i32)
-        } else {
-            None
-        }
-    } else if n < 1 << 31 {
-        Some(n as i32)
+    line.iter().all(|b| is_blank(*b))
+}
+
+const DASHES: &[u8] = b"--";
+
+const HASH: &[u8] = b"#";
+
+fn begins_a_comment(line: &[u8]) -> bool
+    ensures { result ≡ (starts_with nat_eq line.now (codes "--") || starts_with nat_eq line.now (codes "#")) }
+{
+    line.starts_with(DASHES) || line.starts_with(HASH)
+}
+
+/// Whether a line has nothing to do: blanks alone, or a comment.
+fn is_idle(line: &[u8]) -> bool
+    ensures { result ≡ idle line.now }
+{
+    is_all_blank(line) || begins_a_comment(line)
+}
+
+/// Whether a statement is INSERT, SELECT, UPDATE or DELETE.
+fn is_on_rows(statement: &Statement) -> bool
+    ensures { result ≡ on_rows statement.now }
+{
+    match statement {
+        Statement::Insert { .. }
+        | Statement::Select { .. }
+        | Statement::Update { .. }
+        | Statement::Delete { .. } => true,
+        Statement::CreateArea { .. }
+        | Statement::CreateTable { .. }
+        | Statement::AddArea { .. }
+        | Statement::LockTable { .. }
+        | Statement::Commit
+        | Statement::Rollback => false,
+    }
+}
+
+/// What is not built lets its statement go.
+fn not_built(_session: Text, _statement: Statement) -> Order
+    ensures { result ≡ Order.NotBuilt }
+{
+    Order::NotBuilt
+}
+
+fn order_of_statement(session: Text, statement: Statement, held: bool) -> Order
+    ensures { result ≡ order_by_work session held (Work.Sql statement) }
+{
+    if !held && is_on_rows(&statement) {
+        Order::Given { session, statement }
     } else {
-        None
+        not_built(session, statement)
     }
 }
 
-/// An optional minus and 1 to 10 digits, within INTEGER.
-#[tactic(auto, unfolding(hb_table::proofs::OrderOf::number_of))]
-fn number(bytes: &[u8]) -> Option<i32>
-    ensures { result ≡ number_of bytes.now }
+fn order_of_work(session: Text, work: Work, held: bool) -> Order
+    ensures { result ≡ order_by_work session held work }
 {
-    if bytes.starts_with(b"-") {
-        let n = natural(&bytes[1..])?;
-        integer(true, n)
-    } else {
-        let n = natural(bytes)?;
-        integer(false, n)
+    match work {
+        Work::Sql(statement) => order_of_statement(session, statement, held),
+        Work::Rebalance { .. } => Order::NotBuilt,
     }
 }
 
-/// The key and the text of an INSERT.
-#[tactic(auto, unfolding(hb_table::proofs::OrderOf::row_of))]
-fn row(line: &[u8]) -> Option<(i32, &[u8])>
-    ensures { option_map (λ row. (row.0, row.1.now)) result ≡ row_of line.now }
+/// What a run on one table makes of what a line says.
+fn order(item: Item) -> Order
+    ensures { result ≡ order_of item }
 {
-    let rest = strip_front(line, INSERT)?;
-    let (digits, rest) = split_at_byte(rest, b',')?;
-    let rest = strip_front(rest, b" '")?;
-    let (text, rest) = split_at_byte(rest, b'\'')?;
-    let key = number(digits)?;
-    if rest.starts_with(b")") && rest.len() == 1 && is_text(text) {
-        Some((key, text))
-    } else {
-        None
+    match item {
+        Item::Blank => Order::Blank,
+        Item::Give {
+            session,
+            work,
+            held,
+        } => order_of_work(session, work, held),
+        Item::Step { .. }
+        | Item::Stop { .. }
+        | Item::Arm { .. }
+        | Item::Start { .. }
+        | Item::Sync { .. }
+        | Item::Barrier => Order::NotBuilt,
     }
 }
 
-fn is_alphanumeric(b: u8) -> bool
-    ensures { result ≡ alphanumeric b }
-{
-    b.is_ascii_digit() || (b >= b'A' && b <= b'Z') || (b >= b'a' && b <= b'z')
-}
-
-fn all_alphanumeric(text: &[u8]) -> bool
-    ensures { result ≡ list_all alphanumeric text.now }
-{
-    text.iter().all(|b| is_alphanumeric(*b))
-}
-
-/// 0 to 20 letters and digits.
-fn is_text(text: &[u8]) -> bool
-    ensures { result ≡ text_of text.now }
-{
-    text.len() <= 20 && all_alphanumeric(text)
-}
-
-#[tactic(auto, unfolding(hb_table::proofs::OrderOf::order_of))]
-fn order(alloc: Global, line: &[u8]) -> Result<Order, NoMemory>
-    ensures { IfOk result (λ order. order ≡ order_of line.now) }
-{
-    if line.starts_with(SELECT) && line.len() == SELECT.len() {
-        return Ok(Order::Select);
-    }
-    match row(line) {
-        Some((key, text)) => {
-            let text = Text::new(Vec::from_slice(alloc, text)?);
-            Ok(Order::Insert { key, text })
-        }
-        None => Ok(Order::NotBuilt),
-    }
-}
-
-/// What a line asks. A line of any bytes has its answer.
+/// What a line of at most 8,192 bytes asks. A line of any bytes has its answer.
 pub fn read_line(alloc: Global, line: &[u8]) -> Result<Order, NoMemory>
+    requires { length line.now ≤ most_bytes }
     ensures { IfOk result (Asks line.now) }
 {
-    order(alloc, line)
+    if is_idle(line) {
+        return Ok(Order::Blank);
+    }
+    match parse(alloc, line) {
+        Ok(item) => Ok(order(item)),
+        Err(ParseFault::Syntax { byte }) => Ok(Order::Syntax(byte)),
+        Err(ParseFault::NoMemory) => Err(NoMemory),
+    }
 }

@@ -1,13 +1,13 @@
 // The lines of a source, taken a piece at a time.
-ghost use Rattle.std.specs.Prelude.{◌≡◌, ◌+◌, ◌<◌, ◌≤◌, ◌++◌, [], length, take, drop, IfOk, IfSome, OnOk, OnSome};
+ghost use Rattle.std.specs.Prelude.{◌≡◌, ◌+◌, ◌<◌, ◌≤◌, true, [], length, drop, IfOk, IfSome, OnOk, OnSome};
 ghost use Rattle.hb_edge.specs.Causes.{HasCause};
 ghost use Rattle.hb_edge.specs.Streams.{with_front};
-ghost use Rattle.hb_script.specs.Parts.{TakesPart};
+ghost use Rattle.hb_script.specs.Parts.{TakesPart, TakesLine};
 ghost use Rattle.hb_script.specs.Scripts.{NextOrder, HasSourceCause};
 
 use crate::ScriptFault;
 use crate::cut::split_at_byte;
-use crate::front::{keep, kept_order};
+use crate::front::{is_past_the_most, some_line};
 use hb_edge::{Failed, Source};
 use hb_table::Order;
 use hb_types::NoMemory;
@@ -16,8 +16,8 @@ use std::marker::Model;
 
 const PIECE: usize = 4096;
 
-/// Reads a script from a source, a piece of at most 4,096 bytes at a time. Of a line it keeps at most 64 bytes: a
-/// longer one is in none of the forms.
+/// Reads a script from a source, a piece of at most 4,096 bytes at a time. A line is refused as soon as it is
+/// known to have more than 8,192 bytes.
 #[derive(Drop)]
 pub struct ScriptReader {
     piece: Vec<u8>,
@@ -77,22 +77,50 @@ impl ScriptReader {
 
     /// Passes what belongs to the line, and adds it to its front. Whether the line ends there.
     fn take_part(&mut self, front: &mut Vec<u8>) -> Result<bool, NoMemory>
-        requires { length front.old.items ≤ 64 }
         ensures { IfOk result (λ ends. TakesPart ends front.old.items front.new.items self.old self.new) }
     {
         let unread = self.unread();
         match split_at_byte(unread, b'\n') {
             Some((part, _)) => {
-                keep(front, part)?;
+                front.extend_from_slice(part)?;
                 let count = part.len() + 1;
                 self.pass(count);
                 Ok(true)
             }
             None => {
-                keep(front, unread)?;
+                front.extend_from_slice(unread)?;
                 let count = unread.len();
                 self.pass(count);
                 Ok(false)
+            }
+        }
+    }
+
+    /// Takes the bytes of the next line, without its line feed, into an empty front. Whether there was a line.
+    fn take_line<S: Source>(
+        &mut self,
+        source: &mut S,
+        front: &mut Vec<u8>,
+    ) -> Result<bool, ScriptFault>
+        requires { front.old.items ≡ [] }
+        ensures line { TakesLine (with_front self.old (S.left source.old)) (with_front self.new (S.left source.new)) (S.faults source.old) (S.faults source.new) front.new.items result }
+        ensures bound { IfOk result (λ some. some ≡ true → length self.new + S.bound source.new < length self.old + S.bound source.old) }
+        ensures later { S.faults source.old ≤ S.faults source.new }
+    {
+        'pieces: loop {
+            let ends = self.take_part(front)?;
+            if ends {
+                return Ok(true);
+            }
+            if is_past_the_most(front) {
+                return Err(ScriptFault::TooLong);
+            }
+            match self.fill(source) {
+                Err(Failed) => return Err(ScriptFault::Source),
+                Ok(()) => {}
+            }
+            if self.unread().len() < 1 {
+                return Ok(front.len() > 0);
             }
         }
     }
@@ -105,23 +133,14 @@ impl ScriptReader {
     ) -> Result<Option<Order>, ScriptFault>
         ensures next { IfOk result (λ found. NextOrder found (with_front self.old (S.left source.old)) (with_front self.new (S.left source.new))) }
         ensures bound { IfOk result (λ found. OnSome found (length self.new + S.bound source.new < length self.old + S.bound source.old)) }
-        ensures cause { HasSourceCause (S.faults source.old) (S.faults source.new) result }
+        ensures cause { HasSourceCause (S.faults source.old) (S.faults source.new) (with_front self.old (S.left source.old)) result }
     {
         let mut front = Vec::new(alloc);
-        'pieces: loop {
-            if self.take_part(&mut front)? {
-                return Ok(Some(kept_order(alloc, &front)?));
-            }
-            match self.fill(source) {
-                Err(Failed) => return Err(ScriptFault::Source),
-                Ok(()) => {}
-            }
-            if self.unread().len() < 1 {
-                if front.len() < 1 {
-                    return Ok(None);
-                }
-                return Ok(Some(kept_order(alloc, &front)?));
-            }
+        let some = self.take_line(source, &mut front)?;
+        if some {
+            some_line(alloc, &front)
+        } else {
+            Ok(None)
         }
     }
 }

@@ -1,13 +1,14 @@
-// Lines at their edges, a source in small pieces, and one that fails.
+// Lines of each kind, a source in small pieces and one that fails, and the texts of replies.
 ghost use Rattle.std.specs.Prelude.{Some, length};
 
-use crate::{ScriptFault, ScriptReader, TAKEN, inserted, lines, not_built, read_line, rows, taken};
+use crate::{ScriptFault, ScriptReader, lines, not_built, read_line, reply, syntax};
 use hb_edge::{Failed, Source};
-use hb_table::Order;
-use hb_types::{NoMemory, Text};
+use hb_model::Statement;
+use hb_table::{Answer, Order, Refusal};
+use hb_types::{Text, Value};
+use sqlite_items::Items;
 use std::alloc::Global;
-use std::collections::BTreeMap;
-use std::test::Fail;
+use std::test::*;
 
 /// Gives at most so many bytes a call. The call of a given number fails.
 #[derive(Drop)]
@@ -50,208 +51,181 @@ fn source(script: &[u8], most: usize, failing: u64) -> FakeSource<'_> {
     }
 }
 
-/// An order in brief: its key and its text, `all` or `?`.
-fn write_brief(alloc: Global, order: &Order, out: &mut Vec<u8>) -> Result<(), NoMemory> {
-    match order {
-        Order::Insert { key, text } => {
-            let key = format!(in alloc; "{key}=")?;
-            out.extend_from_slice(key.as_bytes())?;
-            out.extend_from_slice(text.as_slice())?;
-        }
-        Order::Select => out.extend_from_slice(b"all")?,
-        Order::NotBuilt => out.push(b'?')?,
+fn letter(statement: &Statement) -> u8 {
+    match statement {
+        Statement::Insert { .. } => b'I',
+        Statement::Select { .. } => b'S',
+        Statement::Update { .. } => b'U',
+        Statement::Delete { .. } => b'D',
+        _ => b'X',
     }
-    Ok(())
+}
+
+/// An order in brief: a letter, and the byte of a refusal.
+fn brief_of(order: &Order) -> (u8, u32) {
+    match order {
+        Order::Blank => (b'_', 0),
+        Order::Syntax(byte) => (b'!', *byte),
+        Order::NotBuilt => (b'?', 0),
+        Order::Given { statement, .. } => (letter(statement), 0),
+    }
+}
+
+fn brief(order: Order) -> (u8, u32) {
+    brief_of(&order)
 }
 
 /// What one line asks, in brief.
-fn brief(alloc: Global, line: &[u8]) -> Result<Vec<u8>, NoMemory> {
-    let mut out = Vec::new(alloc);
-    let order = read_line(alloc, line)?;
-    write_brief(alloc, &order, &mut out)?;
-    Ok(out)
+fn asked(alloc: Global, line: &[u8]) -> (u8, u32) {
+    if line.len() > 8192 {
+        return (b'-', 0);
+    }
+    match read_line(alloc, line) {
+        Ok(order) => brief(order),
+        Err(_) => (b'-', 0),
+    }
 }
 
-/// The first ten orders of a script, in brief, each with a semicolon.
-fn briefs(alloc: Global, source: &mut FakeSource<'_>) -> Result<Vec<u8>, ScriptFault> {
+/// The letter of the next order, or a dot where the script has ended.
+fn next_letter(
+    alloc: Global,
+    reader: &mut ScriptReader,
+    source: &mut FakeSource<'_>,
+) -> Result<u8, ScriptFault> {
+    match reader.next_order(alloc, source) {
+        Ok(None) => Ok(b'.'),
+        Ok(Some(order)) => Ok(brief(order).0),
+        Err(fault) => Err(fault),
+    }
+}
+
+/// The letters of the first eight orders of a script.
+fn letters(alloc: Global, source: &mut FakeSource<'_>) -> Result<Vec<u8>, ScriptFault> {
     let mut reader = ScriptReader::new(alloc)?;
     let mut out = Vec::new(alloc);
-    for _ in 0..10 {
-        match reader.next_order(alloc, source)? {
-            None => break,
-            Some(order) => {
-                write_brief(alloc, &order, &mut out)?;
-                out.push(b';')?;
-            }
-        }
+    for _ in 0..8 {
+        let letter = next_letter(alloc, &mut reader, source)?;
+        out.push(letter)?;
     }
     Ok(out)
 }
 
-#[test]
-fn keys_at_the_edges(rt: HostRuntime) -> Result<(), Fail> {
-    let alloc = rt.alloc();
-    for (line, want) in [
-        (
-            b"s1: INSERT INTO T VALUES (2147483647, 'a')".as_slice(),
-            b"2147483647=a".as_slice(),
-        ),
-        (
-            b"s1: INSERT INTO T VALUES (-2147483648, 'a')".as_slice(),
-            b"-2147483648=a".as_slice(),
-        ),
-        (
-            b"s1: INSERT INTO T VALUES (2147483648, 'a')".as_slice(),
-            b"?".as_slice(),
-        ),
-        (
-            b"s1: INSERT INTO T VALUES (-2147483649, 'a')".as_slice(),
-            b"?".as_slice(),
-        ),
-        (
-            b"s1: INSERT INTO T VALUES (-0, 'a')".as_slice(),
-            b"0=a".as_slice(),
-        ),
-        (
-            b"s1: INSERT INTO T VALUES (-0000000007, 'a')".as_slice(),
-            b"-7=a".as_slice(),
-        ),
-        (
-            b"s1: INSERT INTO T VALUES (00000000007, 'a')".as_slice(),
-            b"?".as_slice(),
-        ),
-        (
-            b"s1: INSERT INTO T VALUES (+7, 'a')".as_slice(),
-            b"?".as_slice(),
-        ),
-        (
-            b"s1: INSERT INTO T VALUES (, 'a')".as_slice(),
-            b"?".as_slice(),
-        ),
-    ] {
-        assert_eq!(rt; brief(alloc, line)?.as_slice(), want);
-    }
-    Ok(())
+/// What becomes of a script of one line of so many bytes and an end.
+fn long_line(alloc: Global, count: usize, end: &[u8]) -> Result<u8, ScriptFault> {
+    let mut script = vec![in alloc; b'#'; count]?;
+    script.extend_from_slice(end)?;
+    let mut reader = ScriptReader::new(alloc)?;
+    next_letter(alloc, &mut reader, &mut source(script.as_slice(), 3000, 0))
 }
 
 #[test]
-fn texts_at_the_edges(rt: HostRuntime) -> Result<(), Fail> {
-    let alloc = rt.alloc();
+fn lines_of_each_kind(rt: HostRuntime) {
     for (line, want) in [
-        (
-            b"s1: INSERT INTO T VALUES (5, '')".as_slice(),
-            b"5=".as_slice(),
-        ),
-        (
-            b"s1: INSERT INTO T VALUES (5, 'abcdefghijKLMNOP0189')".as_slice(),
-            b"5=abcdefghijKLMNOP0189".as_slice(),
-        ),
-        (
-            b"s1: INSERT INTO T VALUES (5, 'abcdefghijKLMNOP01890')".as_slice(),
-            b"?".as_slice(),
-        ),
-        (
-            b"s1: INSERT INTO T VALUES (5, 'a b')".as_slice(),
-            b"?".as_slice(),
-        ),
-        (
-            b"s1: INSERT INTO T VALUES (5, 'a') ".as_slice(),
-            b"?".as_slice(),
-        ),
-        (
-            b"s1: INSERT INTO T VALUES (5,'a')".as_slice(),
-            b"?".as_slice(),
-        ),
-        (b"s1: SELECT * FROM T".as_slice(), b"all".as_slice()),
-        (b"s1: SELECT * FROM T ".as_slice(), b"?".as_slice()),
-        (b"".as_slice(), b"?".as_slice()),
-        (b"\xff\x00".as_slice(), b"?".as_slice()),
+        (b"".as_slice(), (b'_', 0)),
+        (b" \t ", (b'_', 0)),
+        (b"-- s1: COMMIT", (b'_', 0)),
+        (b"# s1: COMMIT", (b'_', 0)),
+        (b" # s1: COMMIT", (b'!', 2)),
+        (b"s1: INSERT INTO T VALUES (1, 'a')", (b'I', 0)),
+        (b"s1: select * from T where K = 1", (b'S', 0)),
+        (b"s1: UPDATE T SET V = 'b'", (b'U', 0)),
+        (b"s1: DELETE FROM T;", (b'D', 0)),
+        (b"s1: COMMIT", (b'?', 0)),
+        (b"GIVE s1: DELETE FROM T", (b'?', 0)),
+        (b"STOP bes1", (b'?', 0)),
+        (b"BARRIER", (b'?', 0)),
+        (b"s1: SELEC * FROM T", (b'!', 5)),
+        (b"\xff\x00", (b'!', 1)),
     ] {
-        assert_eq!(rt; brief(alloc, line)?.as_slice(), want);
+        assert_eq!(rt; asked(rt.alloc(), line), want);
     }
-    Ok(())
 }
 
 #[test]
 fn pieces_of_any_size(rt: HostRuntime) -> Result<(), Fail> {
     let alloc = rt.alloc();
-    let script =
-        b"s1: INSERT INTO T VALUES (-5, 'e')\r\n\n\r\ns1: SELECT * FROM T\r\r\ns1: SELECT * FROM T\r";
+    let script = b"s1: DELETE FROM T\r\n\n\r\ns1: SELECT * FROM T\r\r\nBARRIER\r";
     for most in [1, 2, 7, 64, 4096] {
-        let orders = briefs(alloc, &mut source(script, most, 0))?;
-        assert_eq!(rt; orders.as_slice(), b"-5=e;?;?;?;all;".as_slice());
-    }
-    assert_eq!(rt; briefs(alloc, &mut source(b"", 1, 0))?.len(), 0);
-    assert_eq!(rt;
-        briefs(alloc, &mut source(b"\n", 1, 0))?.as_slice(),
-        b"?;".as_slice()
-    );
-    assert_eq!(rt;
-        briefs(alloc, &mut source(b"s1: SELECT * FROM T", 3, 0))?.as_slice(),
-        b"all;".as_slice()
-    );
-    Ok(())
-}
-
-#[test]
-fn a_long_line_is_one_line(rt: HostRuntime) -> Result<(), Fail> {
-    let alloc = rt.alloc();
-    let mut script = Vec::from_slice(
-        alloc,
-        b"s1: SELECT * FROM T\ns1: SELECT * FROM T".as_slice(),
-    )?;
-    let long = vec![in alloc; b' '; 100_000]?;
-    script.extend_from_slice(long.as_slice())?;
-    script.extend_from_slice(
-        b"\r\ns1: INSERT INTO T VALUES (-2147483648, 'abcdefghijKLMNOP0189')\r\n",
-    )?;
-    for most in [1000, 4096, 200_000] {
-        let orders = briefs(alloc, &mut source(script.as_slice(), most, 0))?;
-        assert_eq!(rt;
-            orders.as_slice(),
-            b"all;?;-2147483648=abcdefghijKLMNOP0189;".as_slice()
-        );
+        let found = letters(alloc, &mut source(script, most, 0))?;
+        assert_eq!(rt; found.as_slice(), b"D__!?...".as_slice());
     }
     Ok(())
 }
 
 #[test]
-fn a_source_that_fails(rt: HostRuntime) -> Result<(), Fail> {
-    let alloc = rt.alloc();
-    let script = b"s1: SELECT * FROM T\ns1: SELECT * FROM T\n";
-    for failing in [1, 2, 3, 4] {
-        let mut source = source(script, 20, failing);
-        match briefs(alloc, &mut source) {
-            Ok(orders) => {
-                assert_eq!(rt; failing, 4);
-                assert_eq!(rt; orders.as_slice(), b"all;all;".as_slice());
-            }
-            Err(fault) => assert_eq!(rt; fault, ScriptFault::Source),
-        }
+fn lines_that_are_too_long(rt: HostRuntime) {
+    for (count, end, want) in [
+        (8192, b"".as_slice(), Ok(b'_')),
+        (8192, b"\r\n", Ok(b'_')),
+        (8192, b"\r", Ok(b'_')),
+        (8193, b"", Err(ScriptFault::TooLong)),
+        (8193, b"\n", Err(ScriptFault::TooLong)),
+        (8192, b"\r\r\n", Err(ScriptFault::TooLong)),
+        (20000, b"\n", Err(ScriptFault::TooLong)),
+    ] {
+        assert_eq!(rt; long_line(rt.alloc(), count, end), want);
     }
-    Ok(())
+}
+
+#[test]
+fn a_source_that_fails(rt: HostRuntime) {
+    let script = b"BARRIER\ns1: DELETE FROM T\n";
+    for failing in [1, 2, 3] {
+        let found = letters(rt.alloc(), &mut source(script, 20, failing));
+        assert!(rt; matches!(found, Err(ScriptFault::Source)));
+    }
+}
+
+fn some_rows(alloc: Global) -> Result<Answer, Fail> {
+    let mut row = Items::new(alloc);
+    row.push(Value::Int(-7))?;
+    row.push(Value::Text(Text::new(Vec::from_slice(alloc, b"a,\"b")?)))?;
+    let mut rows = Items::new(alloc);
+    rows.push(row)?;
+    Ok(Answer::Rows(rows))
+}
+
+fn reply_is(alloc: Global, answer: Answer, committed: Option<u64>, want: &[u8]) -> bool {
+    match reply(alloc, b"s1", &answer, committed) {
+        Ok(text) => text.as_slice() == want,
+        Err(_) => false,
+    }
 }
 
 #[test]
 fn texts_of_replies(rt: HostRuntime) -> Result<(), Fail> {
     let alloc = rt.alloc();
-    let mut table = BTreeMap::new(alloc);
-    assert_eq!(rt; rows(alloc, &table)?.as_slice(), b"s1 ROWS 0\n".as_slice());
-    table.insert(5, Text::new(Vec::from_slice(alloc, b"e".as_slice())?))?;
-    table.insert(-1, Text::new(Vec::new(alloc)))?;
-    assert_eq!(rt;
-        rows(alloc, &table)?.as_slice(),
-        b"s1 ROW -1,\ns1 ROW 5,e\ns1 ROWS 2\n".as_slice()
+    let rows = some_rows(alloc)?;
+    assert!(rt; reply_is(alloc, rows, None, b"s1 ROW -7,\"a,\"\"b\"\ns1 ROWS 1\n"));
+    assert!(rt;
+        reply_is(
+            alloc,
+            Answer::Inserted,
+            Some(12),
+            b"s1 INSERTED 1\ns1 COMMITTED 12\n"
+        )
     );
-    assert_eq!(rt;
-        inserted(alloc, 12)?.as_bytes(),
-        b"s1 INSERTED 1\ns1 COMMITTED 12\n".as_slice()
+    assert!(rt;
+        reply_is(
+            alloc,
+            Answer::Refused(Refusal::KeyTaken),
+            None,
+            b"s1 KEY TAKEN\n"
+        )
     );
-    assert_eq!(rt;
-        not_built(alloc, 3)?.as_bytes(),
-        b"LINE 3 NOT BUILT\n".as_slice()
+    Ok(())
+}
+
+#[test]
+fn texts_without_a_session(rt: HostRuntime) -> Result<(), Fail> {
+    let alloc = rt.alloc();
+    let texts = (
+        not_built(alloc, 3)?,
+        syntax(alloc, 4, 28)?,
+        lines(alloc, 0)?,
     );
-    assert_eq!(rt; lines(alloc, 0)?.as_bytes(), b"LINES 0\n".as_slice());
-    assert_eq!(rt; taken(), TAKEN);
+    assert_eq!(rt; texts.0.as_str(), "LINE 3 NOT BUILT\n");
+    assert_eq!(rt; texts.1.as_str(), "LINE 4 SYNTAX 28\n");
+    assert_eq!(rt; texts.2.as_str(), "LINES 0\n");
     Ok(())
 }

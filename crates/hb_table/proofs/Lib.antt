@@ -1,8 +1,6 @@
-pub mod OrderOf
+pub mod Cuts
 pub mod SplitLemmas
-pub mod NumeralLemmas
-pub mod OrderLemmas
 pub mod LineLemmas
-pub mod RowOrder
 pub mod KeptLemmas
+pub mod EntryLemmas
 mod LogExamples

@@ -1,5 +1,6 @@
 pub mod Lines
-pub mod Orders
 pub mod Table
+pub mod Texts
 pub mod Run
+pub mod Answers
 pub mod Log

@@ -1,62 +1,82 @@
--- The table: entries in the order in which they came, rows in the order of their keys, and the replies to orders.
-use Rattle.std.specs.Prelude.{◌≡◌, ℕ, ◌+◌, List, [], ◌∷◌, ◌++◌, length, if◌then◌else◌, Bool, false, ℤ, pos, negsuc, codes, refl}
-use Rattle.std.specs.Fmt.{decimal, signed_decimal}
-use Rattle.std.specs.List.{flat_map, list_any}
-use Rattle.std.specs.Ordering.{int_cmp, int_eq, is_lt}
-use Rattle.hb_table.specs.declared.order.Order.{Order}
-use Rattle.hb_table.specs.declared.order.Order.TheVariants.{Insert, Select, NotBuilt}
+-- The one table T (K INTEGER, V VARCHAR(20)) by K: as a state of the model, by its entries, and by what is stored of it.
+use Rattle.std.specs.Prelude.{ℕ, ℤ, List, [], ◌∷◌, Option, Some, None, option_map, unwrap_or, map, codes, FitsSigned, length, ◌<◌}
+use Rattle.std.specs.BTreeMap.{insert_entry, is_at}
+use Rattle.std.specs.Int.{w32}
+use Rattle.std.specs.Map.{remove_entry}
+use Rattle.std.specs.Ordering.{int_cmp}
+use Rattle.hb_types.specs.declared.change.Change.{Change}
+use Rattle.hb_types.specs.declared.change.Stored.{Stored}
+use Rattle.hb_types.specs.declared.places.Place.{Place}
+use Rattle.hb_types.specs.declared.value.Column.{Column}
+use Rattle.hb_types.specs.declared.value.Value.{Value}
+use Rattle.hb_types.specs.declared.value.Value.TheVariants as value
+use Rattle.hb_types.specs.Rows.{row_bytes}
+use Rattle.hb_model.specs.declared.table.Table.{Table}
+use Rattle.hb_model.specs.Rows.{key_of}
+use Rattle.hb_model.specs.State.{State, nothing, table_named}
+use Rattle.hb_table.specs.declared.edit.Edit.{Edit}
+
+-- ---- as a state of the model
+
+abbrev pub columns : List Column
+columns = record { name = codes "K"; size = 0 } ∷ record { name = codes "V"; size = 20 } ∷ []
+
+-- the table with these rows
+abbrev pub table_of : List (List Value) → Table
+table_of rows = record { name = codes "T"; columns = columns; key = 0; rows = rows }
+
+-- the state that has this table alone; where its rows lie is of no account to statements on rows
+abbrev pub state_of : List (List Value) → State
+state_of rows = record { tables = table_of rows ∷ []; layout = nothing.layout }
+
+-- the rows of the table in a state
+abbrev pub rows_in : State → List (List Value)
+rows_in s = unwrap_or (option_map (λ (t : Table). t.rows) (table_named s (codes "T"))) []
+
+-- ---- entries
 
 -- a key and its text
 abbrev pub Entry : Type 0
 Entry = ℤ × List ℕ
 
--- a row before the first one with a greater key
-abbrev pub with_row : Entry → List Entry → List Entry
-with_row row [] = row ∷ []
-with_row row (first ∷ rows) = if is_lt (int_cmp first.0 row.0) then first ∷ with_row row rows else row ∷ first ∷ rows
+abbrev pub row_of : Entry → List Value
+row_of entry = value.Int entry.0 ∷ value.Text entry.1 ∷ []
 
--- the entries by key
-abbrev pub rows_of : List Entry → List Entry
-rows_of [] = []
-rows_of (entry ∷ entries) = with_row entry (rows_of entries)
+abbrev pub rows_of : List Entry → List (List Value)
+rows_of entries = map row_of entries
 
-abbrev pub has_key : ℤ → List Entry → Bool
-has_key key entries = list_any (λ entry. int_eq key entry.0) entries
+-- the entries, with a text put at its key or taken out there
+abbrev pub put_text : List Entry → ℤ → Option (List ℕ) → List Entry
+put_text entries key (Some text) = insert_entry int_cmp entries key text
+put_text entries key None = remove_entry (is_at (int_cmp key)) entries
 
--- no two entries have one key
-abbrev pub AreDistinct : List Entry → Type 0
-AreDistinct [] = Unit {0}
-AreDistinct (entry ∷ entries) = (has_key entry.0 entries ≡ false) × AreDistinct entries
+-- the entries after edits, one after another
+abbrev pub edited : List Entry → List Edit → List Entry
+edited entries [] = entries
+edited entries (edit ∷ edits) = edited (put_text entries edit.key edit.text) edits
 
--- the entries after an order: a new key's entry comes last
-unfoldable pub entries_with : List Entry → Order → List Entry
-entries_with entries (Insert key text) = if has_key key entries then entries else entries ++ (key, text) ∷ []
-entries_with entries Select = entries
-entries_with entries NotBuilt = entries
+-- ---- what is stored
 
--- the text of one row
-unfoldable pub row_text : Entry → List ℕ
-row_text row = codes "s1 ROW " ++ signed_decimal row.0 ++ codes "," ++ row.1 ++ codes "\n"
+-- where the row of a key lies: table 1 in area 257, in group 0
+abbrev pub place_of : ℤ → Place
+place_of key = record { space = record { area = 257; table = 1 }; group = 0; key = key }
 
--- the reply to a SELECT over these rows
-unfoldable pub rows_text : List Entry → List ℕ
-rows_text rows = flat_map row_text rows ++ (codes "s1 ROWS " ++ decimal (length rows) ++ codes "\n")
+abbrev pub stored_row : List Value → Stored
+stored_row row = record { place = place_of (key_of (table_of []) row); row = row_bytes row }
 
--- the reply to an INSERT that made the entries so many
-unfoldable pub inserted_text : ℕ → List ℕ
-inserted_text n = codes "s1 INSERTED 1\ns1 COMMITTED " ++ decimal n ++ codes "\n"
+-- the rows as they are stored
+abbrev pub stored : List (List Value) → List Stored
+stored rows = map stored_row rows
 
-unfoldable pub taken_text : List ℕ
-taken_text = codes "s1 KEY TAKEN\n"
+-- the change by which an edit is logged
+abbrev pub change_of : Edit → Change
+change_of edit = record { place = place_of edit.key; row = option_map (λ text. row_bytes (row_of (edit.key, text))) edit.text }
 
-unfoldable pub not_built_text : ℕ → List ℕ
-not_built_text number = codes "LINE " ++ decimal number ++ codes " NOT BUILT\n"
+abbrev pub is_short : Option (List ℕ) → Type 0
+is_short None = Unit {0}
+is_short (Some text) = length text < 256
 
--- the reply to an order, which is the line of that number
-unfoldable pub reply_to : ℕ → List Entry → Order → List ℕ
-reply_to number entries (Insert key text) = if has_key key entries then taken_text else inserted_text (length entries + 1)
-reply_to number entries Select = rows_text (rows_of entries)
-reply_to number entries NotBuilt = not_built_text number
-
-rows_of-three : rows_of ((pos 5, codes "e") ∷ (negsuc 0, codes "a") ∷ (pos 0, []) ∷ []) ≡ (negsuc 0, codes "a") ∷ (pos 0, []) ∷ (pos 5, codes "e") ∷ []
-rows_of-three = refl
+-- an edit that can be logged: its key is INTEGER, and its text has a length of one byte
+pub record IsEdit (edit : Edit) : Type 0 where
+  pub key : FitsSigned w32 edit.key
+  pub text : is_short edit.text

@@ -1,19 +1,7 @@
-// Laws about lines: what the lines of an input are, and that each line asks exactly one order.
+// Laws about lines: what the lines of an input are.
 ghost use Rattle.std.specs.Prelude.{◌≡◌, ◌≢◌, ◌<◌, ℕ, List, [], ◌∷◌, ◌++◌, length};
 ghost use Rattle.std.specs.List.{AllByRecursion};
-ghost use Rattle.hb_table.specs.declared.order.Order.{Order};
 ghost use Rattle.hb_table.specs.Lines.{without_return, lines_of};
-ghost use Rattle.hb_table.specs.Orders.{Asks};
-
-/// A law: no line asks two orders.
-pub fn one_order()
-    ensures { (line : List ℕ) (a b : Order) → Asks line a → Asks line b → a ≡ b }
-{}
-
-/// A law: each line asks an order.
-pub fn some_order()
-    ensures { (line : List ℕ) → (order : Order) × Asks line order }
-{}
 
 /// A law: a line has no line feed.
 pub fn no_feed()

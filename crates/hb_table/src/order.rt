@@ -1,10 +1,13 @@
 // What one line of a script asks.
+use hb_model::Statement;
 use hb_types::Text;
 
-/// A row to be inserted, all rows to be shown, or a form that isn't built.
-#[derive(Debug, Drop)]
+/// What one line of a script asks: nothing, a refusal with the place of its byte from 1, a form that isn't built, or a
+/// statement on rows, given to a session.
+#[derive(Drop)]
 pub enum Order {
-    Insert { key: i32, text: Text },
-    Select,
+    Blank,
+    Syntax(u32),
     NotBuilt,
+    Given { session: Text, statement: Statement },
 }

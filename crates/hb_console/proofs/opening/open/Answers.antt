@@ -1,10 +1,11 @@
 use Rattle.std.proofs.Common.{◌≤◌, List, inl, refl, ◌∙◌, subst, arith}
 use Rattle.hb_types.specs.declared.change.Placed.{Placed}
 use Rattle.hb_table.specs.Log.{Keeps, IsTableLog, nothing_kept}
+use Rattle.hb_console.specs.Openings.{from_log}
 use Rattle.hb_console.specs.Tables.{items_of}
-use Rattle.hb_console.specs.Replays.{Refuses}
+use Rattle.hb_console.specs.Stops.{Refuses}
 use Rattle.hb_console.proofs.Settled.{stores_kept}
-use Rattle.hb_console.proofs.Starting.{told_all, same_entries, fails_start, fails_replay}
+use Rattle.hb_console.proofs.Starting.{begins_for, told_all, same_state, fails_start, fails_replay}
 use Rattle.hb_console.proofs.opening.open.Goals as goal
 
 pub returns-in-Err-start-clause-fails : goal.returns-in-Err-start-clause-fails
@@ -25,11 +26,17 @@ returns-in-Ok-replay_all-clause-opens g c = told_all (g.D.Disk.content c.args.di
     record {
       kept = found.0;
       is_log = log;
+      committed = found.2;
       ready = λ was. record {
+        kept = found.0;
         log = record { placed = c.in-Ok-start.log.items.items; settled = e.settled read told (time was) (inl refl); keeps = keeps; in_time = e.in_time (time was) };
         committed = found.2;
+        rows = refl;
+        number = refl;
+        session = refl;
       };
-      stays = λ was m image le left. same_entries c.records_have_one_form.ensures.one_form read image found.0 log ((e.stop read told (time was)).each m image (omega (arith, le, c.sync.ensures.clock)) left);
+      stays = λ was m image le left. same_state c.records_have_one_form.ensures.one_form read image found.0 (from_log found.0 c.in-Ok-replay_all.committed.rows.entries) log (begins_for found.0 c.in-Ok-replay_all.committed.rows.entries found.2.rows)
+          ((e.stop read told (time was)).each m image (omega (arith, le, c.sync.ensures.clock)) left);
     })
 
 pub returns-in-Err-replay_all-clause-fails : goal.returns-in-Err-replay_all-clause-fails
@@ -42,5 +49,5 @@ returns-in-Err-replay_all-clause-fails g c =
     (fails_replay g.D.Disk.content g.D.Disk.left g.D.Disk.last g.D.Disk.faults c.records_have_one_form.ensures.one_form c.args.disk c.sync.new.self disk c.args.clock.now c.sync.new.clock c.start.new.clock
     c.sync.ensures.content c.sync.ensures.clock c.sync.ensures.last c.sync.ensures.cause.later (g.met.D.Disk.stands disk) (g.met.D.Disk.stands_on disk)
     e.stop e.told e.count items e.items e.content
-    (λ kept read told time keeps. stores_kept g.D.Disk.content g.D.Disk.left g.D.Disk.last kept c.in-Ok-start.log c.start.new.clock (g.met.D.Disk.stands disk) (record { placed = items; settled = e.settled read told time (inl refl); keeps = keeps; in_time = e.in_time time }))
+    (λ kept s read told time keeps for_it. stores_kept g.D.Disk.content g.D.Disk.left g.D.Disk.last kept s c.in-Ok-start.log c.start.new.clock (g.met.D.Disk.stands disk) (record { placed = items; settled = e.settled read told time (inl refl); keeps = keeps; in_time = e.in_time time }) for_it)
     c.in-Err-replay_all.stop refuses)

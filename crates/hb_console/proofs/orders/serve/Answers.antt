@@ -1,51 +1,34 @@
-use Rattle.std.proofs.Common.{◌∙◌, inl, ap, refl, SFits, w32, rules}
-use Rattle.std.proofs.lemmas.Int.{to_z-of_z}
-use Rattle.hb_table.specs.Table.{entries_with, rows_text}
-use Rattle.hb_console.specs.Tables.{HasEither}
-use Rattle.hb_console.proofs.OrderReplies.{reply_to-insert, entries_with-select, entries_with-not_built, reply_to-select, reply_to-not_built}
-use Rattle.hb_console.proofs.Settled.{err_any, stores_kept, leaves_kept}
+use Rattle.std.proofs.Common.{◌≡◌, ◌∙◌, sym}
+use Rattle.hb_console.proofs.Serving.{answered_same, after-blank, after-syntax, after-not_built, reply-blank, reply-syntax, reply-not_built}
+use Rattle.hb_console.proofs.Settled.{err_any, leaves_ready, stores_ready}
 use Rattle.hb_console.proofs.orders.serve.Goals as goal
 
-pub returns-in-Insert-clause-done : goal.returns-in-Insert-clause-done
-returns-in-Insert-clause-done g c = λ kept ready.
-    let fits : SFits w32 c.in-Insert.key = search rules in
-    rw (c.in-Insert.is, reply_to-insert c.args.number kept.entries c.in-Insert.key c.in-Insert.text) ((simp to_z-of_z at c.insert.ensures.done) kept ready)
+pub returns-in-Blank-clause-done : goal.returns-in-Blank-clause-done
+returns-in-Blank-clause-done g c = λ s ready. rw (c.in-Blank.is, after-blank s, reply-blank c.args.number s) (record { text = c.new.ensures.items; ready = ready })
 
-pub returns-in-Insert-clause-leaves : goal.returns-in-Insert-clause-leaves
-returns-in-Insert-clause-leaves g c = λ kept ready.
-    let fits : SFits w32 c.in-Insert.key = search rules in
-    rw (c.in-Insert.is) ((simp to_z-of_z at c.insert.ensures.leaves) kept ready)
+pub returns-in-Blank-clause-leaves : goal.returns-in-Blank-clause-leaves
+returns-in-Blank-clause-leaves g c = λ s ready. leaves_ready g.D.Disk.content g.D.Disk.left g.D.Disk.last s _ c.args.table.now c.args.clock.now (g.met.D.Disk.stands c.args.table.now.log.disk) ready
 
-pub returns-in_ok-rows-in-Select-clause-done : goal.returns-in_ok-rows-in-Select-clause-done
-returns-in_ok-rows-in-Select-clause-done g c = λ kept ready.
-    rw (c.in-Select.is, entries_with-select kept.entries, reply_to-select c.args.number kept.entries)
-    (record { text = c.in_ok-rows-in-Select.ensures ∙ ap rows_text ready.committed.rows; kept = kept; ready = ready; entries_are = refl })
+pub returns-in-Syntax-clause-done : goal.returns-in-Syntax-clause-done
+returns-in-Syntax-clause-done g c = λ s ready. rw (c.in-Syntax.is, after-syntax s c.in-Syntax.byte, reply-syntax c.args.number s c.in-Syntax.byte) (answered_same g.D.Disk.content g.D.Disk.left g.D.Disk.last s c.args.table.now c.args.clock.now _ ready c.syntax_reply.result c.syntax_reply.ensures.text)
 
-pub returns-in_ok-not_built-in-NotBuilt-clause-done : goal.returns-in_ok-not_built-in-NotBuilt-clause-done
-returns-in_ok-not_built-in-NotBuilt-clause-done g c = λ kept ready.
-    rw (c.in-NotBuilt.is, entries_with-not_built kept.entries, reply_to-not_built c.args.number kept.entries)
-    (record { text = c.in_ok-not_built-in-NotBuilt.ensures; kept = kept; ready = ready; entries_are = refl })
+pub returns-in-Syntax-clause-leaves : goal.returns-in-Syntax-clause-leaves
+returns-in-Syntax-clause-leaves g c = λ s ready. leaves_ready g.D.Disk.content g.D.Disk.left g.D.Disk.last s _ c.args.table.now c.args.clock.now (g.met.D.Disk.stands c.args.table.now.log.disk) ready
 
-pub returns-in_err-rows-in-Select-clause-leaves : goal.returns-in_err-rows-in-Select-clause-leaves
-returns-in_err-rows-in-Select-clause-leaves g c = λ kept ready.
-    leaves_kept g.D.Disk.content g.D.Disk.left g.D.Disk.last kept c.args.table.now.log c.args.clock.now (λ image. HasEither kept.entries (entries_with kept.entries c.args.order) image) (g.met.D.Disk.stands c.args.table.now.log.disk) ready.log (λ image has. inl has)
+pub returns-in-Syntax-clause-stopped : goal.returns-in-Syntax-clause-stopped
+returns-in-Syntax-clause-stopped g c = λ s ready. err_any c.syntax_reply.result _ (λ stop other. stores_ready g.D.Disk.content g.D.Disk.left g.D.Disk.last s c.args.table.now c.args.clock.now (g.met.D.Disk.stands c.args.table.now.log.disk) ready)
 
-pub returns-in_ok-rows-in-Select-clause-leaves : goal.returns-in_ok-rows-in-Select-clause-leaves
-returns-in_ok-rows-in-Select-clause-leaves g c = λ kept ready.
-    leaves_kept g.D.Disk.content g.D.Disk.left g.D.Disk.last kept c.args.table.now.log c.args.clock.now (λ image. HasEither kept.entries (entries_with kept.entries c.args.order) image) (g.met.D.Disk.stands c.args.table.now.log.disk) ready.log (λ image has. inl has)
+pub returns-in-NotBuilt-clause-done : goal.returns-in-NotBuilt-clause-done
+returns-in-NotBuilt-clause-done g c = λ s ready. rw (c.in-NotBuilt.is, after-not_built s, reply-not_built c.args.number s) (answered_same g.D.Disk.content g.D.Disk.left g.D.Disk.last s c.args.table.now c.args.clock.now _ ready c.not_built_reply.result c.not_built_reply.ensures.text)
 
-pub returns-in_err-not_built-in-NotBuilt-clause-leaves : goal.returns-in_err-not_built-in-NotBuilt-clause-leaves
-returns-in_err-not_built-in-NotBuilt-clause-leaves g c = λ kept ready.
-    leaves_kept g.D.Disk.content g.D.Disk.left g.D.Disk.last kept c.args.table.now.log c.args.clock.now (λ image. HasEither kept.entries (entries_with kept.entries c.args.order) image) (g.met.D.Disk.stands c.args.table.now.log.disk) ready.log (λ image has. inl has)
+pub returns-in-NotBuilt-clause-leaves : goal.returns-in-NotBuilt-clause-leaves
+returns-in-NotBuilt-clause-leaves g c = λ s ready. leaves_ready g.D.Disk.content g.D.Disk.left g.D.Disk.last s _ c.args.table.now c.args.clock.now (g.met.D.Disk.stands c.args.table.now.log.disk) ready
 
-pub returns-in_ok-not_built-in-NotBuilt-clause-leaves : goal.returns-in_ok-not_built-in-NotBuilt-clause-leaves
-returns-in_ok-not_built-in-NotBuilt-clause-leaves g c = λ kept ready.
-    leaves_kept g.D.Disk.content g.D.Disk.left g.D.Disk.last kept c.args.table.now.log c.args.clock.now (λ image. HasEither kept.entries (entries_with kept.entries c.args.order) image) (g.met.D.Disk.stands c.args.table.now.log.disk) ready.log (λ image has. inl has)
+pub returns-in-NotBuilt-clause-stopped : goal.returns-in-NotBuilt-clause-stopped
+returns-in-NotBuilt-clause-stopped g c = λ s ready. err_any c.not_built_reply.result _ (λ stop other. stores_ready g.D.Disk.content g.D.Disk.left g.D.Disk.last s c.args.table.now c.args.clock.now (g.met.D.Disk.stands c.args.table.now.log.disk) ready)
 
-pub returns-in_err-rows-in-Select-clause-stopped : goal.returns-in_err-rows-in-Select-clause-stopped
-returns-in_err-rows-in-Select-clause-stopped g c = λ kept ready.
-    err_any c.from_residual.result _ (λ stop other. stores_kept g.D.Disk.content g.D.Disk.left g.D.Disk.last kept c.args.table.now.log c.args.clock.now (g.met.D.Disk.stands c.args.table.now.log.disk) ready.log)
+pub returns-in-Given-clause-done : goal.returns-in-Given-clause-done
+returns-in-Given-clause-done g c = λ s ready. rw c.in-Given.is (c.give.ensures.done s ready)
 
-pub returns-in_err-not_built-in-NotBuilt-clause-stopped : goal.returns-in_err-not_built-in-NotBuilt-clause-stopped
-returns-in_err-not_built-in-NotBuilt-clause-stopped g c = λ kept ready.
-    err_any c.from_residual-in_err-not_built-in-NotBuilt.result _ (λ stop other. stores_kept g.D.Disk.content g.D.Disk.left g.D.Disk.last kept c.args.table.now.log c.args.clock.now (g.met.D.Disk.stands c.args.table.now.log.disk) ready.log)
+pub returns-in-Given-clause-leaves : goal.returns-in-Given-clause-leaves
+returns-in-Given-clause-leaves g c = λ s ready. rw c.in-Given.is (c.give.ensures.leaves s ready)

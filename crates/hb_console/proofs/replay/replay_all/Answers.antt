@@ -4,10 +4,11 @@ use Rattle.std.proofs.lemmas.Result.{err_from_is_err_and}
 use Rattle.hb_types.specs.declared.change.Placed.{Placed}
 use Rattle.hb_table.specs.Log.{Keeps, nothing_kept}
 use Rattle.hb_console.specs.declared.stop.Stop.{Stop}
-use Rattle.hb_console.specs.Replays.{Refuses}
+use Rattle.hb_console.specs.Stops.{Refuses}
 use Rattle.hb_console.specs.Tables.{items_of}
 use Rattle.hb_console.proofs.Settled.{push_keeps}
-use Rattle.hb_console.proofs.Replaying.{refuses_all, next_taken, split_there}
+use Rattle.hb_console.proofs.ListSteps.{next_taken, split_there}
+use Rattle.hb_console.proofs.Replaying.{refuses_all}
 use Rattle.hb_console.proofs.replay.replay_all.Goals as goal
 
 pub returns-in_err-take-clause-stop : goal.returns-in_err-take-clause-stop

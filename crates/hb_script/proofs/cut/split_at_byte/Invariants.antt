@@ -1,6 +1,6 @@
 use Rattle.std.proofs.Common.{◌≡◌, take, drop}
 use Rattle.std.specs.Option.{option_map}
-use Rattle.hb_table.proofs.OrderOf.{behind, cut_at}
+use Rattle.hb_table.proofs.Cuts.{behind, cut_at}
 use Rattle.hb_script.proofs.cut.split_at_byte.Given as goal
 
 abbrev pub invariant-loop-i : goal.invariant-loop-i

@@ -1,34 +1,35 @@
-use Rattle.std.proofs.Common.{◌≤◌, ◌+◌, ◌<◌, true, false, ℕ, List, Bool, ap, subst, arith, length}
+use Rattle.std.proofs.Common.{ℕ, List, Bool, subst}
+use Rattle.std.specs.Prelude.{Ok}
+use Rattle.std.proofs.lemmas.Result.{err_from_is_err_and}
 use Rattle.hb_edge.specs.Streams.{with_front}
 use Rattle.hb_table.specs.Lines.{without_return}
-use Rattle.hb_table.specs.Orders.{Asks}
-use Rattle.hb_script.specs.Parts.{TakesPart}
-use Rattle.hb_script.proofs.FrontLemmas.{kept_few}
-use Rattle.hb_script.proofs.ReadingLemmas.{Reading, found, goes_on, last}
+use Rattle.hb_script.specs.Parts.{TakesLine, NextLine}
+use Rattle.hb_script.specs.Scripts.{AsksOr}
+use Rattle.hb_script.proofs.Causes.{done_well}
+use Rattle.hb_script.proofs.OrderLemmas.{some_next, some_bound, some_cause, none_cause}
 use Rattle.hb_script.proofs.reader.ScriptReader.next_order.Goals as goal
 
-pub take_part-requires : goal.take_part-requires
-take_part-requires g c = kept_few c.pieces.front.items c.pieces.invariant.reading.part c.pieces.invariant.reading.kept
+pub returns-then-some-clause-next : goal.returns-then-some-clause-next
+returns-then-some-clause-next g c =
+    let line : NextLine c.take_line.new.front.items (with_front c.args.self.now (g.S.Source.left c.args.source.now)) (with_front c.take_line.new.self (g.S.Source.left c.take_line.new.source)) = subst (λ (b : Bool). TakesLine (with_front c.args.self.now (g.S.Source.left c.args.source.now)) (with_front c.take_line.new.self (g.S.Source.left c.take_line.new.source)) (g.S.Source.faults c.args.source.now) (g.S.Source.faults c.take_line.new.source) c.take_line.new.front.items (Ok b)) c.if-some.true c.in_ok-some.ensures.line in
+    some_next c.take_line.new.front.items _ _ line c.some_line.result (subst (λ (l : List ℕ). AsksOr (without_return l) c.some_line.result) c.deref.ensures.value c.some_line.ensures)
 
-pub returns-then-branch-clause-next : goal.returns-then-branch-clause-next
-returns-then-branch-clause-next g c =
-    let takes : TakesPart true c.pieces.front.items c.take_part.new.front.items c.pieces.self c.take_part.new.self = subst (λ (b : Bool). TakesPart b c.pieces.front.items c.take_part.new.front.items c.pieces.self c.take_part.new.self) c.if-branch.true c.in_ok-take_part.ensures in
-    let asks : Asks (without_return c.take_part.new.front.items) c.in_ok-kept_order.field-0 = subst (λ (l : List ℕ). Asks (without_return l) c.in_ok-kept_order.field-0) c.deref.ensures.value c.in_ok-kept_order.ensures in
-    found _ c.pieces.front.items c.take_part.new.front.items c.pieces.self c.take_part.new.self (g.S.Source.left c.pieces.source) _ _ c.in_ok-kept_order.field-0 c.pieces.invariant.reading takes asks
+pub returns-then-some-clause-bound : goal.returns-then-some-clause-bound
+returns-then-some-clause-bound g c = some_bound _ _ _ (c.in_ok-some.ensures.bound c.if-some.true) c.some_line.result c.some_line.ensures
 
-pub returns-then-unread-lt1-clause-next : goal.returns-then-unread-lt1-clause-next
-returns-then-unread-lt1-clause-next g c =
-    let takes : TakesPart false c.pieces.front.items c.take_part.new.front.items c.pieces.self c.take_part.new.self = subst (λ (b : Bool). TakesPart b c.pieces.front.items c.take_part.new.front.items c.pieces.self c.take_part.new.self) c.if-branch.false c.in_ok-take_part.ensures in
-    let reading : Reading (with_front c.args.self.now (g.S.Source.left c.args.source.now)) c.take_part.new.front.items c.fill.new.self (g.S.Source.left c.fill.new.source) (length c.args.self.now + g.S.Source.bound c.args.source.now) (g.S.Source.bound c.fill.new.source) = goes_on _ c.pieces.front.items c.take_part.new.front.items c.pieces.self c.take_part.new.self c.fill.new.self (g.S.Source.left c.pieces.source) (g.S.Source.left c.fill.new.source) _ _ (g.S.Source.bound c.fill.new.source) c.pieces.invariant.reading takes c.in-Ok.ensures.bytes c.in-Ok.ensures.bound in
-    let few : length c.fill.new.self < 1 = omega (arith, c.if-unread-lt1.true, ap length c.unread.ensures) in
-    let some : 1 ≤ length c.take_part.new.front.items = omega (arith, c.if-len-lt1.false, c.len.ensures) in
-    let asks : Asks (without_return c.take_part.new.front.items) c.in_ok-kept_order-2.field-0 = subst (λ (l : List ℕ). Asks (without_return l) c.in_ok-kept_order-2.field-0) c.deref-then-unread-lt1.ensures.value c.in_ok-kept_order-2.ensures in
-    last _ c.take_part.new.front.items c.fill.new.self (g.S.Source.left c.fill.new.source) _ _ c.in_ok-kept_order-2.field-0 reading few (c.in-Ok.ensures.end (omega arith)) some asks
+pub returns-then-some-clause-cause : goal.returns-then-some-clause-cause
+returns-then-some-clause-cause g c =
+    let line : NextLine c.take_line.new.front.items (with_front c.args.self.now (g.S.Source.left c.args.source.now)) (with_front c.take_line.new.self (g.S.Source.left c.take_line.new.source)) = subst (λ (b : Bool). TakesLine (with_front c.args.self.now (g.S.Source.left c.args.source.now)) (with_front c.take_line.new.self (g.S.Source.left c.take_line.new.source)) (g.S.Source.faults c.args.source.now) (g.S.Source.faults c.take_line.new.source) c.take_line.new.front.items (Ok b)) c.if-some.true c.in_ok-some.ensures.line in
+    some_cause c.take_line.new.front.items _ (with_front c.take_line.new.self (g.S.Source.left c.take_line.new.source)) line _ _ c.take_line.ensures.later c.some_line.result (subst (λ (l : List ℕ). AsksOr (without_return l) c.some_line.result) c.deref.ensures.value c.some_line.ensures)
 
-pub pieces-preserved : goal.pieces-preserved
-pieces-preserved g c =
-    let takes : TakesPart false c.pieces.front.items c.take_part.new.front.items c.pieces.self c.take_part.new.self = subst (λ (b : Bool). TakesPart b c.pieces.front.items c.take_part.new.front.items c.pieces.self c.take_part.new.self) c.if-branch.false c.in_ok-take_part.ensures in
-    record {
-      reading = goes_on _ c.pieces.front.items c.take_part.new.front.items c.pieces.self c.take_part.new.self c.fill.new.self (g.S.Source.left c.pieces.source) (g.S.Source.left c.fill.new.source) _ _ (g.S.Source.bound c.fill.new.source) c.pieces.invariant.reading takes c.in-Ok.ensures.bytes c.in-Ok.ensures.bound;
-      later = omega (arith, c.pieces.invariant.later, c.in-Ok.ensures.cause.later);
-    }
+pub returns-clause-next : goal.returns-clause-next
+returns-clause-next g c =
+    subst (λ (b : Bool). TakesLine (with_front c.args.self.now (g.S.Source.left c.args.source.now)) (with_front c.take_line.new.self (g.S.Source.left c.take_line.new.source)) (g.S.Source.faults c.args.source.now) (g.S.Source.faults c.take_line.new.source) c.take_line.new.front.items (Ok b)) c.if-some.false c.in_ok-some.ensures.line
+
+pub returns-clause-cause : goal.returns-clause-cause
+returns-clause-cause g c = done_well _ _ _ _ c.take_line.ensures.later
+
+pub returns-in_err-some-clause-cause : goal.returns-in_err-some-clause-cause
+returns-in_err-some-clause-cause g c =
+    let p = err_from_is_err_and c.from_residual.result c.from_residual.ensures.1 in
+    none_cause _ p.0 c.in_err-some.field-0.0 p.1 p.2 _ (with_front c.take_line.new.self (g.S.Source.left c.take_line.new.source)) _ _ c.take_line.new.front.items c.take_line.ensures.later c.in_err-some.ensures.line

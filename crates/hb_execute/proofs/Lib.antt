@@ -1,0 +1,12 @@
+pub mod NameLevels
+pub mod KindLevels
+pub mod Refusing
+pub mod DoingLemmas
+pub mod EditedLemmas
+pub mod ChosenLemmas
+pub mod Matched
+pub mod InsertLemmas
+pub mod ExecuteLemmas
+pub mod Looping
+pub mod Twins
+pub mod Endings

@@ -1,0 +1,23 @@
+-- each statement on rows, with refusals, and lines that are none
+s1: INSERT INTO T VALUES (5, 'e')
+s1: INSERT INTO T VALUES (-1, 'a,b')
+s1: INSERT INTO T VALUES (5, 'f')
+s1: INSERT INTO T VALUES (2147483648, 'g')
+s1: INSERT INTO T VALUES (6, 'abcdefghijKLMNOP01890')
+s1: INSERT INTO T VALUES (6)
+s1: SELECT * FROM T
+s1: UPDATE T SET V = 'z' WHERE K > 5
+s1: UPDATE T SET V = 'x' WHERE K = 5 OR V = 'a,b'
+s1: UPDATE T SET K = 2
+s1: SELECT V, K FROM T WHERE NOT K < 0
+s1: SELECT COUNT(*) FROM T
+s1: SELECT SUM(K) FROM T
+s1: SELECT Q FROM T
+s1: DELETE FROM U
+
+s1: DELETE FROM T WHERE K < 0
+s1: COMMIT
+s2: SELECT * FROM T
+s1: SELEC * FROM T
+s1: SELECT FROM T
+# the end
