@@ -1,9 +1,9 @@
 -- The holders of one path: who is among them, and that they stay compatible.
-use Rattle.std.proofs.Common.{◌≡◌, ℕ, Bool, true, false, cond, not, List, [], ◌∷◌, ◌++◌, Some, None, Option, refl, ap, sym, ◌∙◌, subst, filter, if◌then◌else◌, ◌⊎◌, inl, inr, length, get_or, ◌<◌, ◌≤◌, set, ltb, is_some, position, append_assoc, append-nil, suc, zero, arith}
+use Rattle.std.proofs.Common.{◌≡◌, ℕ, Bool, true, false, cond, not, List, [], ◌∷◌, ◌++◌, Some, None, Option, refl, ap, sym, ◌∙◌, filter, if◌then◌else◌, ◌⊎◌, inl, inr, length, get_or, ◌<◌, ◌≤◌, set, ltb, is_some, position, append_assoc, append-nil, suc, zero, arith}
 use Rattle.std.specs.Prelude.{◌&&◌, ◌||◌, ◌==◌}
 use Rattle.std.specs.Option.{option_map, option_to_list}
-use Rattle.std.specs.List.{find, cons_option, list_any, list_all, position_or_len}
-use Rattle.std.proofs.lemmas.Bool.{and_parts, and_from, true≢false, false≢true, eqb-true, eq-eqb, ne_eqb, eqb-false, not-false, or_cases, cases_Bool, ltb-false}
+use Rattle.std.specs.List.{find, cons_option, list_all, position_or_len}
+use Rattle.std.proofs.lemmas.Bool.{and_parts, and_from, true≢false, false≢true, eqb-true, ne_eqb, eqb-false, not-false, or_cases, cases_Bool, ltb-false}
 use Rattle.std.proofs.lemmas.List.Quantifiers.{position-Some}
 use Rattle.std.proofs.lemmas.List.Sums.{fails_before_first}
 use Rattle.hb_types.specs.declared.lock.Holder.{Holder}

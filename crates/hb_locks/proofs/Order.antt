@@ -1,9 +1,9 @@
 -- Look-ups in the map of paths, whose order ties exactly the same paths.
-use Rattle.std.proofs.Common.{◌≡◌, ℕ, Bool, true, false, cond, List, [], ◌∷◌, Some, None, Option, refl, ap, sym, ◌∙◌, subst, unwrap_or, if◌then◌else◌, inl, inr, eqb, arith}
+use Rattle.std.proofs.Common.{◌≡◌, ℕ, Bool, true, false, cond, List, [], ◌∷◌, Some, None, Option, refl, ap, sym, ◌∙◌, unwrap_or, if◌then◌else◌, inl, inr, arith}
 use Rattle.std.specs.Prelude.{◌&&◌, ◌==◌}
 use Rattle.std.specs.Map.{lookup}
 use Rattle.std.specs.BTreeMap.{is_at}
-use Rattle.std.specs.Ordering.{is_eq, ordering_then, nat_cmp, int_cmp, int_eq, MatchOrdering}
+use Rattle.std.specs.Ordering.{is_eq, ordering_then, nat_cmp, int_cmp}
 use Rattle.std.specs.declared.cmp.Ordering.{Ordering}
 use Rattle.std.specs.declared.cmp.Ordering.TheVariants.{Less, Equal, Greater}
 use Rattle.std.proofs.lemmas.Bool.{eq-eqb, eqb-true, and_parts, true≢false, cases_order, ne_eqb, and_from, cases_Bool}
@@ -81,8 +81,8 @@ same_path-refl (Whole s) = same_space-refl s
 same_path-refl (Group s g) = and_from _ _ (same_space-refl s) (eq-eqb g g refl)
 same_path-refl (Key p) = same_place-refl p
 
--- what the map has at a path
-pub lookup_is : (locks : Locks) (q : Path) → lookup (is_at (order q)) locks ≡ lookup (same_path q) locks
+-- what a map has at a path
+pub lookup_is : {X : Type 0} (es : List (Path × X)) (q : Path) → lookup (is_at (order q)) es ≡ lookup (same_path q) es
 lookup_is [] q = refl
 lookup_is (e ∷ es) q =
     ap (λ t. cond t (Some e.1) (lookup (is_at (order q)) es)) (order_is q e.0)

@@ -1,7 +1,6 @@
 -- What the table keeps true through grants and ends.
-use Rattle.std.proofs.Common.{◌≡◌, ℕ, Bool, true, false, cond, List, [], ◌∷◌, ◌++◌, refl, ap, sym, ◌∙◌, subst, if◌then◌else◌, ◌⊎◌, inl, inr, ◌+◌, ◌<◌, length, get_or, take}
-use Rattle.std.specs.BTreeMap.{BTreeMap, get}
-use Rattle.std.specs.Ordering.{nat_cmp}
+use Rattle.std.proofs.Common.{◌≡◌, ℕ, Bool, true, false, List, [], ◌∷◌, ◌++◌, refl, ap, sym, ◌∙◌, if◌then◌else◌, inl, inr, ◌+◌, ◌<◌, length, get_or, take}
+use Rattle.std.specs.BTreeMap.{BTreeMap}
 use Rattle.std.specs.Prelude.{◌==◌, ◌||◌}
 use Rattle.std.specs.List.{list_any}
 use Rattle.std.proofs.lemmas.Bool.{true≢false, false≢true, cases_Bool, cases_eq, eq-eqb}
@@ -12,7 +11,7 @@ use Rattle.hb_types.specs.declared.lock.Mode.{Mode}
 use Rattle.hb_types.specs.declared.names.Tx.{Tx}
 use Rattle.hb_types.specs.declared.places.Path.{Path}
 use Rattle.hb_types.specs.Places.{same_path}
-use Rattle.hb_locks.specs.Locks.{Locks, Changes, Releases, IsCompatible, are_compatible, blockers, granted, holders_at, without, is_of}
+use Rattle.hb_locks.specs.Locks.{Locks, Changes, Releases, IsCompatible, are_compatible, blockers, granted, holders_at, without}
 use Rattle.hb_locks.specs.Index.{IsSound, has_path, holds, paths_at}
 use Rattle.hb_locks.proofs.Order.{same_path-eq, same_path-refl}
 use Rattle.hb_locks.proofs.Lists.{or_left, or_right, holds-granted, holds-without, holds-without_own, without-absent, are_compatible-granted, are_compatible-filter}

@@ -1,6 +1,6 @@
 -- Who holds what on each path, in the order of the first grants, and what a grant and a release change.
-use Rattle.std.specs.Prelude.{◌≡◌, ℕ, Bool, true, false, not, ◌&&◌, if◌then◌else◌, ◌==◌, List, [], ◌∷◌, Option, None, Some, filter, find, unwrap_or, IsSomeAnd}
-use Rattle.std.specs.List.{list_all, filter_map}
+use Rattle.std.specs.Prelude.{◌≡◌, Bool, true, not, ◌&&◌, if◌then◌else◌, ◌==◌, List, [], ◌∷◌, Option, None, Some, filter, find, unwrap_or, IsSomeAnd}
+use Rattle.std.specs.List.{list_all}
 use Rattle.std.specs.Option.{option_map}
 use Rattle.std.specs.Map.{lookup}
 use Rattle.hb_types.specs.declared.lock.Holder.{Holder}
@@ -80,14 +80,6 @@ IsCompatible locks = (q : Path) → are_compatible (holders_at locks q) ≡ true
 
 abbrev pub held_as : Path → Mode → Held
 held_as path mode = record { path = path; mode = mode }
-
--- the lock of a transaction on one path of the table
-abbrev pub held_on : Tx → Path × List Holder → Option Held
-held_on tx entry = option_map (held_as entry.0) (mode_of tx entry.1)
-
--- the locks of a transaction, in the order of the paths
-abbrev pub locks_of : Tx → Locks → List Held
-locks_of tx locks = filter_map (held_on tx) locks
 
 -- the mode on a path in a list of locks
 abbrev pub mode_at : List Held → Path → Option Mode

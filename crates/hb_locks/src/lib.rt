@@ -1,7 +1,7 @@
 //! The lock table of a server: who holds which mode on which path, and who stands in the way of a lock.
 //!
-//! A take costs the logarithm of the table and the holders of its path. A release does so for each path of its transaction.
-//! `locks` walks the whole table: the plain body, under whose contract one that walks the transaction's own paths fits.
+//! A take costs the logarithm of the table and the holders of its path. A release does so for each path of its transaction,
+//! and so does the list of its locks.
 #![tactic(auto)]
 
 mod holders;

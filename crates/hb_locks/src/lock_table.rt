@@ -1,6 +1,6 @@
 // The lock table.
 ghost use Rattle.std.specs.Prelude.{◌≡◌, [], IfOk, OnErr};
-ghost use Rattle.hb_locks.specs.Locks.{HoldsAncestors, IsCompatible, Releases, held_at, lock_cmp, locks_of, mode_at};
+ghost use Rattle.hb_locks.specs.Locks.{HoldsAncestors, IsCompatible, Releases, held_at, lock_cmp, mode_at};
 ghost use Rattle.hb_types.specs.Lists.{Ascends};
 ghost use Rattle.hb_types.specs.declared.places.Path.{Path};
 ghost use Rattle.hb_locks.specs.Takes.{Says};
@@ -90,10 +90,9 @@ impl LockTable {
 
     /// The locks of a transaction, ascending by path.
     pub fn locks(&self, tx: Tx) -> Result<Items<Held>, NoMemory>
-        ensures all { IfOk result (λ locks. locks ≡ locks_of tx self.now) }
         ensures ascending { IfOk result (Ascends lock_cmp) }
         ensures each { IfOk result (λ locks. (q : Path) → mode_at locks q ≡ held_at self.now tx q) }
     {
-        locks_in(self.alloc, &self.table, tx)
+        locks_in(self.alloc, &self.table, &self.paths, tx)
     }
 }

@@ -1,9 +1,9 @@
 // The holders of each path, and the paths that are kept for each transaction.
-ghost use Rattle.std.specs.Prelude.{◌≡◌, ℕ, Bool, if◌then◌else◌, true, [], ◌++◌, IfOk, IsTrue, OnOk, OnErr};
-ghost use Rattle.hb_locks.specs.Locks.{holders_at, without, granted, blockers as blockers_in, Changes, Releases, locks_of, held_as, held_at, lock_cmp, mode_at};
+ghost use Rattle.std.specs.Prelude.{◌≡◌, ℕ, Bool, if◌then◌else◌, true, [], ◌++◌, None, IfOk, IsTrue, OnOk, OnErr};
+ghost use Rattle.hb_locks.specs.Locks.{holders_at, without, granted, blockers as blockers_in, Changes, Releases, held_at, lock_cmp, mode_at};
 ghost use Rattle.hb_types.specs.Lists.{Ascends};
-ghost use Rattle.std.specs.Option.{option_map, option_to_list};
-ghost use Rattle.hb_types.specs.declared.lock.Held.{Held};
+ghost use Rattle.std.specs.Map.{lookup};
+ghost use Rattle.std.specs.Option.{option_or};
 ghost use Rattle.hb_locks.specs.Index.{IsSound, has_path, paths_at};
 ghost use Rattle.hb_types.specs.Places.{same_path};
 ghost use Rattle.hb_types.specs.declared.places.Path.{Path};
@@ -16,6 +16,9 @@ use std::alloc::Global;
 use std::collections::BTreeMap;
 
 pub(crate) type Table = BTreeMap<Path, Holders>;
+
+/// A mode for each path that a transaction holds.
+type Modes = BTreeMap<Path, Mode>;
 
 pub(crate) fn holders_of(table: &Table, path: Path) -> &[Holder]
     ensures { result.now ≡ holders_at table.now.entries path }
@@ -102,23 +105,63 @@ fn take_out(table: &mut Table, path: Path, tx: Tx) -> bool
 }
 
 /// The locks of a transaction, ascending by path.
-pub(crate) fn locks_in(alloc: Global, table: &Table, tx: Tx) -> Result<Items<Held>, NoMemory>
-    ensures all { IfOk result (λ locks. locks ≡ locks_of tx table.now.entries) }
+pub(crate) fn locks_in(
+    alloc: Global,
+    table: &Table,
+    paths: &Paths,
+    tx: Tx,
+) -> Result<Items<Held>, NoMemory>
+    requires sound { IsSound table.now.entries paths.now }
     ensures ascending { IfOk result (Ascends lock_cmp) }
     ensures each { IfOk result (λ locks. (q : Path) → mode_at locks q ≡ held_at table.now.entries tx q) }
 {
-    let mut locks = Items::new(alloc);
-    for (path, holders) in table.iter() {
-        push_lock(&mut locks, *path, mode_of(holders.as_slice(), tx))?;
-    }
-    Ok(locks)
+    let modes = modes_of(alloc, table, paths, tx)?;
+    as_locks(alloc, &modes)
 }
 
-fn push_lock(locks: &mut Items<Held>, path: Path, mode: Option<Mode>) -> Result<(), NoMemory>
-    ensures { OnOk result (locks.new ≡ locks.old ++ option_to_list (option_map (held_as path) mode)) }
+/// In which mode the transaction holds each path that it holds.
+fn modes_of(alloc: Global, table: &Table, paths: &Paths, tx: Tx) -> Result<Modes, NoMemory>
+    requires sound { IsSound table.now.entries paths.now }
+    ensures { IfOk result (λ modes. (q : Path) → lookup (same_path q) modes.entries ≡ held_at table.now.entries tx q) }
+{
+    match paths.get(&tx.0) {
+        Some(list) => modes_in(alloc, table, list.as_slice(), tx),
+        None => Ok(BTreeMap::new(alloc)),
+    }
+}
+
+/// In which modes the transaction holds which of these paths.
+fn modes_in(alloc: Global, table: &Table, paths: &[Path], tx: Tx) -> Result<Modes, NoMemory>
+    ensures { IfOk result (λ modes. (q : Path) → lookup (same_path q) modes.entries ≡ (if has_path paths.now q then held_at table.now.entries tx q else None)) }
+{
+    let mut modes = BTreeMap::new(alloc);
+    for path in paths {
+        keep_mode(&mut modes, *path, mode_of(holders_of(table, *path), tx))?;
+    }
+    Ok(modes)
+}
+
+/// Keeps a path where it is held.
+fn keep_mode(modes: &mut Modes, path: Path, mode: Option<Mode>) -> Result<(), NoMemory>
+    ensures { OnOk result ((q : Path) → lookup (same_path q) modes.new.entries ≡ (if same_path path q then option_or mode (lookup (same_path q) modes.old.entries) else lookup (same_path q) modes.old.entries)) }
 {
     if let Some(mode) = mode {
-        locks.push(Held { path, mode })?;
+        modes.insert(path, mode)?;
     }
     Ok(())
+}
+
+/// These modes by path as locks.
+fn as_locks(alloc: Global, modes: &Modes) -> Result<Items<Held>, NoMemory>
+    ensures ascending { IfOk result (Ascends lock_cmp) }
+    ensures each { IfOk result (λ locks. (q : Path) → mode_at locks q ≡ lookup (same_path q) modes.now.entries) }
+{
+    let mut locks = Items::new(alloc);
+    for (path, mode) in modes.iter() {
+        locks.push(Held {
+            path: *path,
+            mode: *mode,
+        })?;
+    }
+    Ok(locks)
 }

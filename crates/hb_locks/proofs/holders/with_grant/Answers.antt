@@ -1,4 +1,4 @@
-use Rattle.std.proofs.Common.{◌≡◌, ap, sym, ◌∙◌, set, ◌++◌, ◌∷◌, [], Vec, Global, List}
+use Rattle.std.proofs.Common.{ap, sym, ◌∙◌, set, ◌++◌, ◌∷◌, [], Vec, Global, List}
 use Rattle.hb_types.specs.declared.lock.Holder.{Holder}
 use Rattle.hb_locks.proofs.Lists.{granted-found, granted-new}
 use Rattle.hb_locks.proofs.holders.with_grant.Goals as goal

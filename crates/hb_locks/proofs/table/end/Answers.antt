@@ -1,6 +1,5 @@
-use Rattle.std.proofs.Common.{◌≡◌, ap, sym, ◌∙◌, unwrap_or, [], if◌then◌else◌, List}
+use Rattle.std.proofs.Common.{◌≡◌, ap, sym, ◌∙◌, unwrap_or, [], if◌then◌else◌}
 use Rattle.std.proofs.lemmas.Bool.{ne_eqb}
-use Rattle.hb_types.specs.declared.places.Path.{Path}
 use Rattle.hb_locks.specs.Locks.{Releases, holders_at, without}
 use Rattle.hb_locks.specs.Index.{has_path, paths_at}
 use Rattle.hb_locks.proofs.Order.{nat_is}

@@ -1,7 +1,5 @@
-use Rattle.std.proofs.Common.{◌≡◌, ap, ◌∙◌, Some, List, if◌then◌else◌}
+use Rattle.std.proofs.Common.{◌≡◌, ap, ◌∙◌, Some, List}
 use Rattle.hb_types.specs.declared.lock.Holder.{Holder}
-use Rattle.hb_types.specs.declared.places.Path.{Path}
-use Rattle.hb_types.specs.Places.{same_path}
 use Rattle.hb_locks.specs.Locks.{Changes, granted, holders_at}
 use Rattle.hb_locks.proofs.Order.{written}
 use Rattle.hb_locks.proofs.Sound.{sound-granted}

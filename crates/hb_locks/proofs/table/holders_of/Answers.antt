@@ -1,6 +1,5 @@
-use Rattle.std.proofs.Common.{sym, ◌∙◌}
+use Rattle.std.proofs.Common.{◌∙◌}
 use Rattle.hb_locks.proofs.Order.{holders_is}
-use Rattle.hb_locks.proofs.Sound.{releases}
 use Rattle.hb_locks.proofs.table.holders_of.Goals as goal
 
 pub returns-in-Some : goal.returns-in-Some

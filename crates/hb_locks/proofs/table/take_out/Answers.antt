@@ -1,4 +1,4 @@
-use Rattle.std.proofs.Common.{◌≡◌, ap, sym, ◌∙◌, subst, refl, [], Some, None, unwrap_or, if◌then◌else◌, List, Option}
+use Rattle.std.proofs.Common.{◌≡◌, ap, sym, ◌∙◌, subst, refl, Some, None, if◌then◌else◌, List, Option}
 use Rattle.std.specs.Prelude.{IsSome}
 use Rattle.hb_types.specs.declared.lock.Holder.{Holder}
 use Rattle.hb_types.specs.declared.places.Path.{Path}
