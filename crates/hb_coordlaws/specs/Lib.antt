@@ -1,0 +1,4 @@
+pub mod Ascending
+pub mod Finality
+pub mod Order
+pub mod Asking

@@ -1,0 +1,32 @@
+// Laws of reads.
+ghost use Rattle.hb_readlaws.specs.Ordering.{ReadsAreClean, SpacesAreClean, GroupsAreClean, RowsAreOrdered, SpacesAreOrdered, GroupsAreOrdered};
+
+/// A row that is read was put by the reader itself or by a transaction that has committed.
+pub fn reads_are_clean()
+    ensures { ReadsAreClean }
+{}
+
+/// A row of a space that is read was put so too.
+pub fn spaces_are_clean()
+    ensures { SpacesAreClean }
+{}
+
+/// So was a row of a group.
+pub fn groups_are_clean()
+    ensures { GroupsAreClean }
+{}
+
+/// A row that a decided transaction read is the one after all smaller numbers and its own writes.
+pub fn rows_are_ordered()
+    ensures { RowsAreOrdered }
+{}
+
+/// So are the rows of a space that it read.
+pub fn spaces_are_ordered()
+    ensures { SpacesAreOrdered }
+{}
+
+/// So are the rows of a group that it read.
+pub fn groups_are_ordered()
+    ensures { GroupsAreOrdered }
+{}

@@ -1,0 +1,11 @@
+pub mod Covering
+pub mod Granting
+pub mod Locks
+pub mod LogKept
+pub mod Readers
+pub mod Lifting
+pub mod Standing
+pub mod Running
+pub mod Recording
+pub mod Rooming
+pub mod ServerExample

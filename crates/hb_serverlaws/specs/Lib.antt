@@ -1,0 +1,3 @@
+pub mod Trails
+pub mod Locking
+pub mod Logging
