@@ -75,7 +75,7 @@ rollback_quiet s t tx es alive never (inr is) steps = let first = (subst (λ (l 
 pub doubt_dead : (e : Engine) (rows : List Stored) (s : SState) (tx floor : ℕ) → StandsFor e rows s → IsInDoubt s tx floor → IsAlive s tx → ⊥
 doubt_dead e rows s tx floor st doubt = not_alive s tx (doubt_slot e.slots e.locks e.floor rows s tx floor st doubt).no_live
 
-up_right : (s : SState) (q : Request) (a : Answer) → s.up ≡ true → Right s q a → RightIn true s q a
+pub up_right : (s : SState) (q : Request) (a : Answer) → s.up ≡ true → Right s q a → RightIn true s q a
 up_right s q a up right = subst (λ (b : Bool). RightIn b s q a) up right
 
 pub quiet_causes : (e : Engine) (rows : List Stored) (s t : SState) (q : Request) (a : Answer) (es : List Effect) → StandsFor e rows s → IsRequest q → HasPaths q → RecordsNone e q a

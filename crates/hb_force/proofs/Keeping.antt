@@ -22,19 +22,20 @@ use Rattle.hb_log.specs.declared.log.Log.{Log}
 use Rattle.hb_disks.specs.LogPlaces.{end_behind}
 use Rattle.hb_disks.specs.Redo.{Prepared, Redone, after, redo_from, without_tx, changes_of}
 use Rattle.hb_disks.proofs.Fold.{redo_from-append}
-use Rattle.hb_store.specs.Meanings.{count_at}
+use Rattle.hb_store.specs.Meanings.{changes_in, count_at, room_for}
 use Rattle.hb_runs.specs.Server.{Branch, SState, now, IsLive, IsInDoubt}
 use Rattle.hb_runs.specs.ServerEffects.{prepared, committed, aborted, happens, vote_of}
 use Rattle.hb_engine.specs.declared.engine.Engine.{Engine}
 use Rattle.hb_engine.specs.Turned.{StandsFor, Turned}
 use Rattle.hb_requests.specs.Forced.{RecordsNone, Forces}
 use Rattle.hb_force.specs.declared.running.Running.{Running}
-use Rattle.hb_force.specs.Kept.{IsSound, IsSoundBranch, Keeps, needed}
-use Rattle.hb_force.specs.Lengths.{HasPlace, changes_in}
+use Rattle.hb_force.specs.Kept.{IsSound, IsSoundBranch, IsSoundDoubt, Kept}
+use Rattle.hb_force.specs.Lengths.{HasPlace}
 use Rattle.hb_force.specs.Quiet.{HasPaths}
 use Rattle.hb_force.proofs.Causing.{quiet_causes}
 use Rattle.hb_force.proofs.Logging.{end_behind-append}
-use Rattle.hb_force.proofs.Rooming.{needed-more, needed-without, without-shorter, each-changes}
+use Rattle.hb_force.proofs.Rows.{HasRow, rows_put_all}
+use Rattle.hb_force.proofs.Rooming.{room_for-more, room_for-without, without-shorter, each-changes}
 use Rattle.hb_force.proofs.Sounding.{steps_stay, steps_log, each-normal, each-without_live, each-without_tx}
 use Rattle.hb_edge.specs.Images.{Image}
 use Rattle.hb_force.specs.Standing.{IsUp}
@@ -52,9 +53,10 @@ voted_sound e rows s tx b st live sound =
     let own = in_Each IsSoundBranch b s.live live.0 sound.live in
     record {
       live = each-without_live IsSoundBranch tx.0 s.live sound.live;
-      doubts = subst (λ (r : Redone). Each (λ (p : Prepared). Each IsChange p.changes) r.doubts) (sym is)
-          (Each-append (λ (p : Prepared). Each IsChange p.changes) (now s).doubts (record { tx = b.tx; floor = (now s).floor; locks = b.locks; changes = normal b.own } ∷ []) sound.doubts (each-normal IsChange b.own own.2, tt));
+      doubts = subst (λ (r : Redone). Each IsSoundDoubt r.doubts) (sym is)
+          (Each-append IsSoundDoubt (now s).doubts (record { tx = b.tx; floor = (now s).floor; locks = b.locks; changes = normal b.own } ∷ []) sound.doubts ((own.0, sound.floor, each-normal IsChange b.own own.2), tt));
       floor = subst (λ (r : Redone). r.floor ≤ greatest) (sym is) sound.floor;
+      rows = subst (λ (r : Redone). Each HasRow r.rows) (sym is) sound.rows;
     }
 
 ended_now : (s : SState) (i : LogItem) → redo_from s.base (s.log ++ i ∷ []) ≡ after (now s) i
@@ -67,8 +69,9 @@ committed_sound s tx n is sound =
     let high : n ≤ greatest = is.1 in
     record {
       live = sound.live;
-      doubts = subst (λ (r : Redone). Each (λ (p : Prepared). Each IsChange p.changes) r.doubts) (sym e) (each-without_tx (λ (p : Prepared). Each IsChange p.changes) tx (now s).doubts sound.doubts);
+      doubts = subst (λ (r : Redone). Each IsSoundDoubt r.doubts) (sym e) (each-without_tx IsSoundDoubt tx (now s).doubts sound.doubts);
       floor = subst (λ (r : Redone). r.floor ≤ greatest) (sym e) (omega (arith, low, high));
+      rows = subst (λ (r : Redone). Each HasRow r.rows) (sym e) (rows_put_all (now s).rows (changes_of tx (now s).doubts) sound.rows (each-changes tx (now s).doubts sound.doubts));
     }
 
 aborted_sound : (s : SState) (tx : ℕ) → IsSound s → IsSound (happens s (aborted tx))
@@ -76,13 +79,14 @@ aborted_sound s tx sound =
     let e = ended_now s (item.Abort (record { 0 = tx })) in
     record {
       live = sound.live;
-      doubts = subst (λ (r : Redone). Each (λ (p : Prepared). Each IsChange p.changes) r.doubts) (sym e) (each-without_tx (λ (p : Prepared). Each IsChange p.changes) tx (now s).doubts sound.doubts);
+      doubts = subst (λ (r : Redone). Each IsSoundDoubt r.doubts) (sym e) (each-without_tx IsSoundDoubt tx (now s).doubts sound.doubts);
       floor = subst (λ (r : Redone). r.floor ≤ greatest) (sym e) sound.floor;
+      rows = subst (λ (r : Redone). Each HasRow r.rows) (sym e) sound.rows;
     }
 
-module _ {D S : Type 0} (rows : S → List Stored) (room : S → Place → ℕ) (old : Running D S) (k : Keeps rows room old) where
+module _ {D S : Type 0} (rows : S → List Stored) (room : S → Place → ℕ) (old : Running D S) (k : Kept rows room old) where
   -- the store has more room, and all else is as it was
-  pub kept_store : (new : Running D S) → new.engine ≡ old.engine → new.log.end ≡ old.log.end → rows new.store ≡ rows old.store → ((place : Place) → room old.store place ≤ room new.store place) → Keeps rows room new
+  pub kept_store : (new : Running D S) → new.engine ≡ old.engine → new.log.end ≡ old.log.end → rows new.store ≡ rows old.store → ((place : Place) → room old.store place ≤ room new.store place) → Kept rows room new
   kept_store new engine end same more = record {
     state = k.state;
     stands = subst (λ (l : List Stored). StandsFor new.engine l k.state) (sym same) (subst (λ (e : Engine). StandsFor e (rows old.store) k.state) (sym engine) k.stands);
@@ -93,7 +97,7 @@ module _ {D S : Type 0} (rows : S → List Stored) (room : S → Place → ℕ) 
   }
 
   -- a request that records nothing
-  pub kept_turn : (new : Running D S) (q : Request) (a : Answer) → IsRequest q → HasPaths q → RecordsNone old.engine q a → Turned k.state q a (λ t. StandsFor new.engine (rows old.store) t) → new.log ≡ old.log → new.store ≡ old.store → Keeps rows room new
+  pub kept_turn : (new : Running D S) (q : Request) (a : Answer) → IsRequest q → HasPaths q → RecordsNone old.engine q a → Turned k.state q a (λ t. StandsFor new.engine (rows old.store) t) → new.log ≡ old.log → new.store ≡ old.store → Kept rows room new
   kept_turn new q a well lies none t log store =
       let quiet = quiet_causes old.engine (rows old.store) k.state t.state q a t.turn.effects k.stands well lies none t.turn.causes t.turn.right t.turn.steps in
       let stays = steps_stay k.state t.state t.turn.effects quiet k.sound t.turn.steps in
@@ -105,13 +109,13 @@ module _ {D S : Type 0} (rows : S → List Stored) (room : S → Place → ℕ) 
         sound = stays.sound;
         end_is = end ∙ k.end_is ∙ ap (λ (n : ℕ). end_behind n k.state.log) (sym stays.place) ∙ ap (λ (l : List LogItem). end_behind t.state.place l) (sym stays.log);
         has_room = let r = k.has_room in let d = ap (λ (x : Redone). length x.doubts) same in omega (arith, r, end, d);
-        rooms = λ place. subst (λ (x : S). needed place (now t.state).doubts ≤ room x place) (sym store) (let r = k.rooms place in let d = ap (λ (x : Redone). needed place x.doubts) same in omega (arith, r, d));
+        rooms = λ place. subst (λ (x : S). room_for place (now t.state).doubts ≤ room x place) (sym store) (let r = k.rooms place in let d = ap (λ (x : Redone). room_for place x.doubts) same in omega (arith, r, d));
       }
 
   -- once a vote stands
   pub kept_voted : (new : Running D S) (tx : Tx) (b : Branch) (vote : LogItem) → IsLive k.state tx.0 b → vote ≡ vote_of k.state b → HasPlace old.log.end (length (now k.state).doubts) vote
       → StandsFor new.engine (rows new.store) (happens k.state (prepared tx.0)) → new.log.end ≡ old.log.end + record_length vote
-      → ((place : Place) → room new.store place ≡ room old.store place + count_at place (changes_in vote)) → Keeps rows room new
+      → ((place : Place) → room new.store place ≡ room old.store place + count_at place (changes_in vote)) → Kept rows room new
   kept_voted new tx b vote live is place stands end more =
       let log = voted_log old.engine (rows old.store) k.state tx b k.stands live vote is in
       let same = voted_now old.engine (rows old.store) k.state tx b k.stands live in
@@ -126,8 +130,8 @@ module _ {D S : Type 0} (rows : S → List Stored) (room : S → Place → ℕ) 
             let fits = place.0 in
             omega (arith, d, one, fits, end);
         rooms = λ p.
-            let d : needed p (now (happens k.state (prepared tx.0))).doubts ≡ needed p ((now k.state).doubts ++ record { tx = b.tx; floor = (now k.state).floor; locks = b.locks; changes = normal b.own } ∷ []) = ap (λ (x : Redone). needed p x.doubts) same in
-            let one = needed-more p (now k.state).doubts (record { tx = b.tx; floor = (now k.state).floor; locks = b.locks; changes = normal b.own }) in
+            let d : room_for p (now (happens k.state (prepared tx.0))).doubts ≡ room_for p ((now k.state).doubts ++ record { tx = b.tx; floor = (now k.state).floor; locks = b.locks; changes = normal b.own } ∷ []) = ap (λ (x : Redone). room_for p x.doubts) same in
+            let one = room_for-more p (now k.state).doubts (record { tx = b.tx; floor = (now k.state).floor; locks = b.locks; changes = normal b.own }) in
             let r = k.rooms p in
             let m = more p in
             let c : count_at p (changes_in vote) ≡ count_at p (normal b.own) = ap (λ (i : LogItem). count_at p (changes_in i)) is in
@@ -142,18 +146,18 @@ module _ {D S : Type 0} (rows : S → List Stored) (room : S → Place → ℕ) 
   end_room tx floor doubt = let one = end_fits tx floor doubt in let r = k.has_room in omega (arith, one, r)
 
   pub changes_room : (tx : ℕ) (changes : List Change) (place : Place) → changes_of tx (now k.state).doubts ≡ changes → count_at place changes ≤ room old.store place
-  changes_room tx changes place are = let r = k.rooms place in let w = needed-without place tx (now k.state).doubts in let c = ap (count_at place) are in omega (arith, r, w, c)
+  changes_room tx changes place are = let r = k.rooms place in let w = room_for-without place tx (now k.state).doubts in let c = ap (count_at place) are in omega (arith, r, w, c)
 
   pub changes_sound : (tx : ℕ) (changes : List Change) → changes_of tx (now k.state).doubts ≡ changes → Each IsChange changes
   changes_sound tx changes are = subst (Each IsChange) are (each-changes tx (now k.state).doubts k.sound.doubts)
 
-  rooms_left : (tx : ℕ) (changes : List Change) (new : Running D S) (place : Place) → changes_of tx (now k.state).doubts ≡ changes → room old.store place ≡ room new.store place + count_at place changes → needed place (without_tx tx (now k.state).doubts) ≤ room new.store place
-  rooms_left tx changes new place are gone = let r = k.rooms place in let w = needed-without place tx (now k.state).doubts in let c = ap (count_at place) are in omega (arith, r, w, c, gone)
+  rooms_left : (tx : ℕ) (changes : List Change) (new : Running D S) (place : Place) → changes_of tx (now k.state).doubts ≡ changes → room old.store place ≡ room new.store place + count_at place changes → room_for place (without_tx tx (now k.state).doubts) ≤ room new.store place
+  rooms_left tx changes new place are gone = let r = k.rooms place in let w = room_for-without place tx (now k.state).doubts in let c = ap (count_at place) are in omega (arith, r, w, c, gone)
 
   -- once a Commit stands and its changes are made
   pub kept_committed : (new : Running D S) (tx : Tx) (n : Number) (floor : ℕ) (changes : List Change) → IsNumber n.0 → IsInDoubt k.state tx.0 floor → changes_of tx.0 (now k.state).doubts ≡ changes
       → StandsFor new.engine (rows new.store) (happens k.state (committed tx.0 n.0)) → new.log.end ≡ old.log.end + 22
-      → ((place : Place) → room old.store place ≡ room new.store place + count_at place changes) → Keeps rows room new
+      → ((place : Place) → room old.store place ≡ room new.store place + count_at place changes) → Kept rows room new
   kept_committed new tx n floor changes is doubt are stands end gone =
       let same = ended_now k.state (item.Commit tx n) in
       let one = end_fits tx.0 floor doubt in
@@ -166,14 +170,14 @@ module _ {D S : Type 0} (rows : S → List Stored) (room : S → Place → ℕ) 
             let d : length (now (happens k.state (committed tx.0 n.0))).doubts ≡ length (without_tx tx.0 (now k.state).doubts) = ap (λ (x : Redone). length x.doubts) same in
             let r = k.has_room in omega (arith, d, one, r, end);
         rooms = λ p.
-            let d : needed p (now (happens k.state (committed tx.0 n.0))).doubts ≡ needed p (without_tx tx.0 (now k.state).doubts) = ap (λ (x : Redone). needed p x.doubts) same in
+            let d : room_for p (now (happens k.state (committed tx.0 n.0))).doubts ≡ room_for p (without_tx tx.0 (now k.state).doubts) = ap (λ (x : Redone). room_for p x.doubts) same in
             let l = rooms_left tx.0 changes new p are (gone p) in omega (arith, d, l);
       }
 
   -- once an Abort stands
   pub kept_aborted : (new : Running D S) (tx : Tx) (floor : ℕ) (changes : List Change) → IsInDoubt k.state tx.0 floor → changes_of tx.0 (now k.state).doubts ≡ changes
       → StandsFor new.engine (rows new.store) (happens k.state (aborted tx.0)) → new.log.end ≡ old.log.end + 14
-      → ((place : Place) → room old.store place ≡ room new.store place + count_at place changes) → Keeps rows room new
+      → ((place : Place) → room old.store place ≡ room new.store place + count_at place changes) → Kept rows room new
   kept_aborted new tx floor changes doubt are stands end gone =
       let same = ended_now k.state (item.Abort tx) in
       let one = end_fits tx.0 floor doubt in
@@ -186,7 +190,7 @@ module _ {D S : Type 0} (rows : S → List Stored) (room : S → Place → ℕ) 
             let d : length (now (happens k.state (aborted tx.0))).doubts ≡ length (without_tx tx.0 (now k.state).doubts) = ap (λ (x : Redone). length x.doubts) same in
             let r = k.has_room in omega (arith, d, one, r, end);
         rooms = λ p.
-            let d : needed p (now (happens k.state (aborted tx.0))).doubts ≡ needed p (without_tx tx.0 (now k.state).doubts) = ap (λ (x : Redone). needed p x.doubts) same in
+            let d : room_for p (now (happens k.state (aborted tx.0))).doubts ≡ room_for p (without_tx tx.0 (now k.state).doubts) = ap (λ (x : Redone). room_for p x.doubts) same in
             let l = rooms_left tx.0 changes new p are (gone p) in omega (arith, d, l);
       }
 

@@ -6,3 +6,6 @@ pub mod Turning
 pub mod Keeping
 pub mod Measuring
 pub mod Making
+pub mod Once
+pub mod Rows
+pub mod Answering

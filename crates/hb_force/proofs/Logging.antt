@@ -4,6 +4,7 @@ use Rattle.std.specs.Prelude.{nat_lt, Option}
 use Rattle.std.proofs.lemmas.Bool.{cases_lt}
 use Rattle.std.proofs.lemmas.Bool.Decides.{nat_tests}
 use Rattle.hb_edge.specs.Images.{Image}
+use Rattle.hb_edge.specs.Stops.{Leaves}
 use Rattle.hb_types.specs.declared.change.LogItem.{LogItem}
 use Rattle.hb_types.specs.declared.change.LogItem.TheVariants.{Prepare, Commit, Abort, Decision, Ids}
 use Rattle.hb_types.specs.declared.change.Placed.{Placed}
@@ -78,3 +79,7 @@ module _ {D : Type 0} (content : D → Option Image) (left : D → ℕ → Image
 pub either_items : (from : ℕ) (image : Image) (items : List LogItem) (placed : List Placed) (p : Placed) → items_of placed ≡ items → IsBeforeOrAfter from placed p image → HasFrom from image items ⊎ HasFrom from image (items ++ p.item ∷ [])
 either_items from image items placed p are (inl was) = inl (placed, was, are)
 either_items from image items placed p are (inr now) = inr (placed ++ p ∷ [], now, items-push placed p ∙ ap (λ (l : List LogItem). l ++ p.item ∷ []) are)
+
+-- what is said of each image left twice
+pub both : (from : ℕ) (old new : ℕ → Image → Type 0) (P Q : ℕ → Image → Type 0) → Leaves from old new P → Leaves from old new Q → Leaves from old new (λ m image. P m image × Q m image)
+both from old new P Q one two = record { each = λ m image le is. (one.each m image le is, two.each m image le is); before = one.before; keeps = one.keeps }

@@ -8,29 +8,29 @@ use Rattle.hb_types.specs.Lists.{Each, Has}
 use Rattle.hb_types.specs.Records.{IsChange}
 use Rattle.hb_types.proofs.PutLaws.{by_test}
 use Rattle.hb_disks.specs.Redo.{Prepared, without_tx, changes_of, changes_or}
-use Rattle.hb_store.specs.Meanings.{count_at}
-use Rattle.hb_force.specs.Kept.{needed}
+use Rattle.hb_store.specs.Meanings.{count_at, room_for}
+use Rattle.hb_force.specs.Kept.{IsSoundDoubt}
 
-pub needed-more : (place : Place) (ps : List Prepared) (p : Prepared) → needed place (ps ++ p ∷ []) ≡ needed place ps + count_at place p.changes
-needed-more place [] p = omega arith
-needed-more place (q ∷ ps) p = let rest = needed-more place ps p in omega (arith, rest)
+pub room_for-more : (place : Place) (ps : List Prepared) (p : Prepared) → room_for place (ps ++ p ∷ []) ≡ room_for place ps + count_at place p.changes
+room_for-more place [] p = omega arith
+room_for-more place (q ∷ ps) p = let rest = room_for-more place ps p in omega (arith, rest)
 
-needed-or : (place : Place) (old : List Change) (tx : ℕ) (ps : List Prepared) → count_at place (changes_or old tx ps) + needed place (without_tx tx ps) ≤ count_at place old + needed place ps
-needed-or place old tx [] = omega arith
-needed-or place old tx (p ∷ ps) =
+room_for-or : (place : Place) (old : List Change) (tx : ℕ) (ps : List Prepared) → count_at place (changes_or old tx ps) + room_for place (without_tx tx ps) ≤ count_at place old + room_for place ps
+room_for-or place old tx [] = omega arith
+room_for-or place old tx (p ∷ ps) =
     by_test (p.tx == tx)
-    (λ t. let rest = needed-or place p.changes tx ps in
+    (λ t. let rest = room_for-or place p.changes tx ps in
     let a : changes_or old tx (p ∷ ps) ≡ changes_or p.changes tx ps = ap (λ z. changes_or (if z then p.changes else old) tx ps) t in
     let b : without_tx tx (p ∷ ps) ≡ without_tx tx ps = ap (λ z. if z then without_tx tx ps else p ∷ without_tx tx ps) t in
-    omega (arith, rest, ap (count_at place) a, ap (needed place) b))
-    (λ f. let rest = needed-or place old tx ps in
+    omega (arith, rest, ap (count_at place) a, ap (room_for place) b))
+    (λ f. let rest = room_for-or place old tx ps in
     let a : changes_or old tx (p ∷ ps) ≡ changes_or old tx ps = ap (λ z. changes_or (if z then p.changes else old) tx ps) f in
     let b : without_tx tx (p ∷ ps) ≡ p ∷ without_tx tx ps = ap (λ z. if z then without_tx tx ps else p ∷ without_tx tx ps) f in
-    omega (arith, rest, ap (count_at place) a, ap (needed place) b))
+    omega (arith, rest, ap (count_at place) a, ap (room_for place) b))
 
 -- the changes of one of them, and those of the others
-pub needed-without : (place : Place) (tx : ℕ) (ps : List Prepared) → count_at place (changes_of tx ps) + needed place (without_tx tx ps) ≤ needed place ps
-needed-without place tx ps = let e = needed-or place [] tx ps in omega (arith, e)
+pub room_for-without : (place : Place) (tx : ℕ) (ps : List Prepared) → count_at place (changes_of tx ps) + room_for place (without_tx tx ps) ≤ room_for place ps
+room_for-without place tx ps = let e = room_for-or place [] tx ps in omega (arith, e)
 
 without-long : (tx : ℕ) (ps : List Prepared) → length (without_tx tx ps) ≤ length ps
 without-long tx [] = omega arith
@@ -50,12 +50,12 @@ without-shorter P tx (p ∷ ps) of (inr there) =
     (λ t. let b = ap length (ap (λ z. if z then without_tx tx ps else p ∷ without_tx tx ps) t) in omega (arith, rest, b))
     (λ f. let b = ap length (ap (λ z. if z then without_tx tx ps else p ∷ without_tx tx ps) f) in omega (arith, rest, b))
 
-each-or : (old : List Change) (tx : ℕ) (ps : List Prepared) → Each IsChange old → Each (λ (p : Prepared). Each IsChange p.changes) ps → Each IsChange (changes_or old tx ps)
+each-or : (old : List Change) (tx : ℕ) (ps : List Prepared) → Each IsChange old → Each IsSoundDoubt ps → Each IsChange (changes_or old tx ps)
 each-or old tx [] is each = is
 each-or old tx (p ∷ ps) is each =
     by_test (p.tx == tx)
-    (λ t. subst (Each IsChange) (sym (ap (λ z. changes_or (if z then p.changes else old) tx ps) t)) (each-or p.changes tx ps each.0 each.1))
+    (λ t. subst (Each IsChange) (sym (ap (λ z. changes_or (if z then p.changes else old) tx ps) t)) (each-or p.changes tx ps each.0.2 each.1))
     (λ f. subst (Each IsChange) (sym (ap (λ z. changes_or (if z then p.changes else old) tx ps) f)) (each-or old tx ps is each.1))
 
-pub each-changes : (tx : ℕ) (ps : List Prepared) → Each (λ (p : Prepared). Each IsChange p.changes) ps → Each IsChange (changes_of tx ps)
+pub each-changes : (tx : ℕ) (ps : List Prepared) → Each IsSoundDoubt ps → Each IsChange (changes_of tx ps)
 each-changes tx ps each = each-or [] tx ps tt each

@@ -112,25 +112,25 @@ quiet_stays s (enlisted tx) is sound = record {
   base = refl;
   place = refl;
   log = refl;
-  sound = record { live = Each-append IsSoundBranch s.live (record { tx = tx; locks = []; own = [] } ∷ []) sound.live ((is, tt, tt), tt); doubts = sound.doubts; floor = sound.floor };
+  sound = record { live = Each-append IsSoundBranch s.live (record { tx = tx; locks = []; own = [] } ∷ []) sound.live ((is, tt, tt), tt); doubts = sound.doubts; floor = sound.floor; rows = sound.rows };
 }
 quiet_stays s (granted tx p m) is sound = record {
   base = refl;
   place = refl;
   log = refl;
-  sound = record { live = each-changing IsSoundBranch tx (grant p m) s.live (λ b ok. granted_sound p m b is ok) sound.live; doubts = sound.doubts; floor = sound.floor };
+  sound = record { live = each-changing IsSoundBranch tx (grant p m) s.live (λ b ok. granted_sound p m b is ok) sound.live; doubts = sound.doubts; floor = sound.floor; rows = sound.rows };
 }
 quiet_stays s (written tx c) is sound = record {
   base = refl;
   place = refl;
   log = refl;
-  sound = record { live = each-changing IsSoundBranch tx (write c) s.live (λ b ok. written_sound c b is ok) sound.live; doubts = sound.doubts; floor = sound.floor };
+  sound = record { live = each-changing IsSoundBranch tx (write c) s.live (λ b ok. written_sound c b is ok) sound.live; doubts = sound.doubts; floor = sound.floor; rows = sound.rows };
 }
 quiet_stays s (dropped tx) is sound = record {
   base = refl;
   place = refl;
   log = refl;
-  sound = record { live = each-without_live IsSoundBranch tx s.live sound.live; doubts = sound.doubts; floor = sound.floor };
+  sound = record { live = each-without_live IsSoundBranch tx s.live sound.live; doubts = sound.doubts; floor = sound.floor; rows = sound.rows };
 }
 quiet_stays s (prepared tx) is sound = absurd is
 quiet_stays s (committed tx n) is sound = absurd is

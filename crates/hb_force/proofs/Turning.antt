@@ -103,9 +103,11 @@ module _ {D S : Type 0} (content : D → Option Image) (left : D → ℕ → Ima
 
   -- what a stop leaves where no call of the disk is made
   pub between_none : (q : Request) → ((m : ℕ) (image : Image) → last old.log.disk ≤ m → left old.log.disk m image → left old.log.disk (last old.log.disk) image)
-      → Leaves moment (left old.log.disk) (left old.log.disk) (λ m image. IsBetween from read s q image)
+      → Leaves moment (left old.log.disk) (left old.log.disk) (λ m image. IsBetween from read s q image × (length up.log.settled.image ≤ length image))
   between_none q stands = record {
-    each = λ m image le is. inl (log_left content left last from (read ++ s.log) old.log moment m image stands up.log (omega (arith, le, up.log.in_time)) is);
+    each = λ m image le is.
+        let same = ap length (up.log.settled.only image (stands m image (omega (arith, le, up.log.in_time)) is)) in
+        (inl (log_left content left last from (read ++ s.log) old.log moment m image stands up.log (omega (arith, le, up.log.in_time)) is), omega (arith, same));
     before = λ m image lt is. is;
     keeps = λ m image lt is. is;
   }

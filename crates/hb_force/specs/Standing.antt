@@ -1,5 +1,5 @@
 -- A server that is up: its log, and the state that it is in.
-use Rattle.std.specs.Prelude.{◌≡◌, ◌⊎◌, ℕ, ◌≤◌, Bool, true, false, List, ◌++◌, map, Option}
+use Rattle.std.specs.Prelude.{◌≡◌, ◌⊎◌, ℕ, ◌≤◌, Bool, true, false, List, ◌++◌, length, map, Option}
 use Rattle.hb_edge.specs.Images.{Image}
 use Rattle.hb_edge.specs.Stops.{Leaves}
 use Rattle.hb_types.specs.declared.answer.Answer.{Answer}
@@ -46,6 +46,13 @@ is_quiet (answer.Fault area) = false
 is_quiet (answer.Damaged area place) = false
 is_quiet _ = true
 
+-- whether a request with this answer has its record in the log
+abbrev pub is_recorded : Request → Answer → Bool
+is_recorded (request.Prepare tx) (answer.Vote floor) = true
+is_recorded (request.Commit tx number) answer.Done = true
+is_recorded (request.Rollback tx) answer.Done = true
+is_recorded _ _ = false
+
 -- what a request records, where it is allowed
 abbrev pub Recorded : Request → Effect → Type 0
 Recorded (request.Prepare tx) e = e ≡ prepared tx.0
@@ -69,7 +76,9 @@ abbrev pub Faults : {D S : Type 0} → (D → Option Image) → (D → ℕ → I
 Faults content left last rows old before q =
     (from : ℕ) (read : List LogItem) (s : SState) → IsUp content left last rows from read s old before → Right s q (answer.Fault false)
 
--- a stop since the start of the request leaves the records from before, or these and the one that the request records
+-- A stop since the start of the request leaves the records from before, or these and the one that the request records, and no fewer
+-- bytes than the log's disk read.
 abbrev pub LeavesBetween : {D S : Type 0} → (D → Option Image) → (D → ℕ → Image → Type 0) → (D → ℕ) → (S → List Stored) → Running D S → ℕ → Running D S → Request → Type 0
 LeavesBetween content left last rows old before new q =
-    (from : ℕ) (read : List LogItem) (s : SState) → IsUp content left last rows from read s old before → Leaves before (left old.log.disk) (left new.log.disk) (λ m image. IsBetween from read s q image)
+    (from : ℕ) (read : List LogItem) (s : SState) (up : IsUp content left last rows from read s old before)
+    → Leaves before (left old.log.disk) (left new.log.disk) (λ m image. IsBetween from read s q image × (length up.log.settled.image ≤ length image))

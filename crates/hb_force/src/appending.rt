@@ -19,8 +19,8 @@ pub(crate) fn append<D: Disk>(
     requires fits { log.old.end + 1 + length bytes.now ≤ 2 ^ 62 }
     ensures done { OnOk result ((from : ℕ) (items : List LogItem) (item : LogItem) → HasRecords D.content D.left D.last from items log.old clock.old → HasRecord item → bytes.now ≡ spelled item ++ 0 ∷ []
         → HasRecords D.content D.left D.last from (items ++ item ∷ []) log.new clock.new) }
-    ensures leaves { (from : ℕ) (items : List LogItem) (item : LogItem) → HasRecords D.content D.left D.last from items log.old clock.old → HasRecord item → bytes.now ≡ spelled item ++ 0 ∷ []
-        → Leaves clock.old (D.left log.old.disk) (D.left log.new.disk) (λ m image. HasFrom from image items ⊎ HasFrom from image (items ++ item ∷ [])) }
+    ensures leaves { (from : ℕ) (items : List LogItem) (item : LogItem) (has : HasRecords D.content D.left D.last from items log.old clock.old) → HasRecord item → bytes.now ≡ spelled item ++ 0 ∷ []
+        → Leaves clock.old (D.left log.old.disk) (D.left log.new.disk) (λ m image. (HasFrom from image items ⊎ HasFrom from image (items ++ item ∷ [])) × (length has.settled.image ≤ length image)) }
     ensures end { OnOk result (log.new.end ≡ log.old.end + length bytes.now) }
     ensures is_open { OnOk result (log.new.closed ≡ false) }
     ensures told { is_some (D.content log.new.disk) ≡ is_some (D.content log.old.disk) }

@@ -5,12 +5,13 @@ ghost use Rattle.hb_types.specs.Numbers.{IsNumber};
 ghost use Rattle.hb_requests.specs.Forced.{Commits};
 ghost use Rattle.hb_store.specs.Meanings.{Stays};
 ghost use Rattle.hb_force.specs.Kept.{Keeps};
-ghost use Rattle.hb_force.specs.Standing.{Turns, Faults, LeavesBetween};
+ghost use Rattle.hb_force.specs.Standing.{Turns, Faults, LeavesBetween, is_recorded};
 
 use crate::appending::append;
 use crate::applying::apply_all;
 use crate::frames::commit_bytes;
 use crate::running::Running;
+use hb_codec::rows_have_one_form;
 use hb_edge::{Clock, Disk, Failed};
 use hb_store::Store;
 use hb_types::{Answer, Number, Request, Tx};
@@ -31,6 +32,7 @@ impl<D: Disk, S: Store> Running<D, S> {
         ensures turns { IfOk result (Turns D.content D.left D.last S.rows self.old clock.old self.new clock.new (Request.Commit tx number)) }
         ensures faulted { OnErr result (Faults D.content D.left D.last S.rows self.old clock.old (Request.Commit tx number)) }
         ensures leaves { LeavesBetween D.content D.left D.last S.rows self.old clock.old self.new (Request.Commit tx number) }
+        ensures unrecorded { IfOk result (λ a. is_recorded (Request.Commit tx number) a ≡ false → self.new.log ≡ self.old.log) }
         ensures kept { OnOk result (Keeps S.rows S.room self.new) }
         ensures stays { Stays S.keeps S.staged self.old.store self.new.store }
         ensures done { IfOk result (λ a. a ≡ Answer.Done) }
@@ -40,6 +42,7 @@ impl<D: Disk, S: Store> Running<D, S> {
         ensures in_time { D.last self.old.log.disk ≤ clock.old → D.last self.new.log.disk ≤ clock.new }
         ensures cause { HasCause (D.faults self.old.log.disk) (D.faults self.new.log.disk) result }
     {
+        rows_have_one_form();
         append(&mut self.log, clock, &commit_bytes(tx, number))?;
         match self.engine.committed(tx, number) {
             Some(changes) => apply_all(&mut self.store, changes),

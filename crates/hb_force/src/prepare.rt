@@ -2,20 +2,21 @@
 ghost use Rattle.std.specs.Prelude.{◌≡◌, ◌++◌, ◌∷◌, [], ◌+◌, ◌≤◌, ℕ, List, true, false, is_some, length, Some, IfOk, OnOk, OnErr};
 ghost use Rattle.hb_edge.specs.Causes.{HasCause};
 ghost use Rattle.hb_types.specs.declared.change.Stored.{Stored};
+ghost use Rattle.hb_types.specs.Calls.{IsAnswer};
 ghost use Rattle.hb_types.specs.Records.{HasRecord, framed as spelled};
 ghost use Rattle.hb_runs.specs.Server.{SState, now};
 ghost use Rattle.hb_engine.specs.Ends.{IsVote};
 ghost use Rattle.hb_engine.specs.Turned.{StandsFor};
 ghost use Rattle.hb_requests.specs.Forced.{Votes};
-ghost use Rattle.hb_store.specs.Meanings.{Stays};
+ghost use Rattle.hb_store.specs.Meanings.{changes_in, Stays};
 ghost use Rattle.hb_force.specs.Kept.{Keeps};
-ghost use Rattle.hb_force.specs.Lengths.{HasPlace, changes_in};
-ghost use Rattle.hb_force.specs.Standing.{Turns, Faults, LeavesBetween, is_quiet};
+ghost use Rattle.hb_force.specs.Lengths.{HasPlace};
+ghost use Rattle.hb_force.specs.Standing.{Turns, Faults, LeavesBetween, is_quiet, is_recorded};
 
 use crate::appending::append;
 use crate::lengths::frame_vote;
 use crate::running::Running;
-use hb_codec::Framed;
+use hb_codec::{Framed, rows_have_one_form};
 use hb_edge::{Clock, Disk, Failed};
 use hb_store::Store;
 use hb_types::{Answer, Change, LogItem, NoMemory, Request, Tx};
@@ -45,8 +46,10 @@ impl<D: Disk, S: Store> Running<D, S> {
         ensures turns { IfOk result (Turns D.content D.left D.last S.rows self.old clock.old self.new clock.new (Request.Prepare tx)) }
         ensures faulted { OnErr result (Faults D.content D.left D.last S.rows self.old clock.old (Request.Prepare tx)) }
         ensures leaves { LeavesBetween D.content D.left D.last S.rows self.old clock.old self.new (Request.Prepare tx) }
+        ensures unrecorded { IfOk result (λ a. is_recorded (Request.Prepare tx) a ≡ false → self.new.log ≡ self.old.log) }
         ensures kept { OnOk result (Keeps S.rows S.room self.new) }
         ensures stays { Stays S.keeps S.staged self.old.store self.new.store }
+        ensures well_formed { IfOk result IsAnswer }
         ensures quiet { IfOk result (λ a. is_quiet a ≡ true) }
         ensures is_open { OnOk result (self.new.log.closed ≡ false) }
         ensures told { is_some (D.content self.new.log.disk) ≡ is_some (D.content self.old.log.disk) }
@@ -54,6 +57,7 @@ impl<D: Disk, S: Store> Running<D, S> {
         ensures in_time { D.last self.old.log.disk ≤ clock.old → D.last self.new.log.disk ≤ clock.new }
         ensures cause { HasCause (D.faults self.old.log.disk) (D.faults self.new.log.disk) result }
     {
+        rows_have_one_form();
         let vote = match self.engine.vote(tx) {
             Ok(Some(vote)) => vote,
             Ok(None) => return Ok(Answer::NoBranch),
@@ -83,8 +87,10 @@ impl<D: Disk, S: Store> Running<D, S> {
         ensures turns { IfOk result (Turns D.content D.left D.last S.rows self.old clock.old self.new clock.new (Request.Prepare tx)) }
         ensures faulted { OnErr result (Faults D.content D.left D.last S.rows self.old clock.old (Request.Prepare tx)) }
         ensures leaves { LeavesBetween D.content D.left D.last S.rows self.old clock.old self.new (Request.Prepare tx) }
+        ensures unrecorded { IfOk result (λ a. is_recorded (Request.Prepare tx) a ≡ false → self.new.log ≡ self.old.log) }
         ensures kept { OnOk result (Keeps S.rows S.room self.new) }
         ensures stays { Stays S.keeps S.staged self.old.store self.new.store }
+        ensures well_formed { IfOk result IsAnswer }
         ensures quiet { IfOk result (λ a. is_quiet a ≡ true) }
         ensures is_open { OnOk result (self.new.log.closed ≡ false) }
         ensures told { is_some (D.content self.new.log.disk) ≡ is_some (D.content self.old.log.disk) }

@@ -1,6 +1,7 @@
 // Why a record isn't made.
 ghost use Rattle.std.specs.Prelude.{◌≡◌, true};
 ghost use Rattle.hb_force.specs.Standing.{is_quiet};
+ghost use Rattle.hb_types.specs.Calls.{IsAnswer};
 
 use hb_types::{Answer, NoMemory};
 
@@ -27,6 +28,7 @@ impl Refusal {
         ensures spent { self ≡ Refusal.Spent → result ≡ Answer.NumbersSpent }
         ensures no_memory { self ≡ Refusal.NoMemory → result ≡ Answer.NoMemory }
         ensures quiet { is_quiet result ≡ true }
+        ensures well_formed { IsAnswer result }
     {
         match self {
             Refusal::Spent => Answer::NumbersSpent,

@@ -5,7 +5,7 @@ ghost use Rattle.hb_types.specs.Numbers.{IsNumber};
 ghost use Rattle.hb_requests.specs.Forced.{RollsBack};
 ghost use Rattle.hb_store.specs.Meanings.{Stays};
 ghost use Rattle.hb_force.specs.Kept.{Keeps};
-ghost use Rattle.hb_force.specs.Standing.{Turns, Faults, LeavesBetween};
+ghost use Rattle.hb_force.specs.Standing.{Turns, Faults, LeavesBetween, is_recorded};
 
 use crate::appending::append;
 use crate::frames::abort_bytes;
@@ -24,6 +24,7 @@ impl<D: Disk, S: Store> Running<D, S> {
         ensures turns { IfOk result (Turns D.content D.left D.last S.rows self.old clock.old self.new clock.new (Request.Rollback tx)) }
         ensures faulted { OnErr result (Faults D.content D.left D.last S.rows self.old clock.old (Request.Rollback tx)) }
         ensures leaves { LeavesBetween D.content D.left D.last S.rows self.old clock.old self.new (Request.Rollback tx) }
+        ensures unrecorded { IfOk result (λ a. is_recorded (Request.Rollback tx) a ≡ false → self.new.log ≡ self.old.log) }
         ensures kept { OnOk result (Keeps S.rows S.room self.new) }
         ensures stays { Stays S.keeps S.staged self.old.store self.new.store }
         ensures done { IfOk result (λ a. a ≡ Answer.Done) }

@@ -1,14 +1,15 @@
 // A server that is up, and the requests that it serves.
 ghost use Rattle.std.specs.Prelude.{◌≡◌, ◌+◌, ◌≤◌, true, false, is_some, IfOk, OnOk, OnErr};
 ghost use Rattle.hb_edge.specs.Causes.{HasCause};
-ghost use Rattle.hb_types.specs.Calls.{IsRequest};
+ghost use Rattle.hb_types.specs.Calls.{IsAnswer, IsRequest};
 ghost use Rattle.hb_types.specs.Places.{IsPath};
 ghost use Rattle.hb_requests.specs.Forced.{Forces};
 ghost use Rattle.hb_store.specs.Meanings.{Stays};
 ghost use Rattle.hb_force.specs.Kept.{Keeps};
 ghost use Rattle.hb_force.specs.Quiet.{HasPaths, records_none};
-ghost use Rattle.hb_force.specs.Standing.{Turns, Faults, LeavesBetween, is_quiet};
+ghost use Rattle.hb_force.specs.Standing.{Turns, Faults, LeavesBetween, is_quiet, is_recorded};
 
+use hb_codec::rows_have_one_form;
 use hb_edge::{Clock, Disk, Failed};
 use hb_engine::Engine;
 use hb_log::Log;
@@ -54,8 +55,10 @@ impl<D: Disk, S: Store> Running<D, S> {
         ensures turns { IfOk result (Turns D.content D.left D.last S.rows self.old clock.old self.new clock.new request.now) }
         ensures faulted { OnErr result (Faults D.content D.left D.last S.rows self.old clock.old request.now) }
         ensures leaves { LeavesBetween D.content D.left D.last S.rows self.old clock.old self.new request.now }
+        ensures unrecorded { IfOk result (λ a. is_recorded request.now a ≡ false → self.new.log ≡ self.old.log) }
         ensures kept { OnOk result (Keeps S.rows S.room self.new) }
         ensures stays { Stays S.keeps S.staged self.old.store self.new.store }
+        ensures well_formed { IfOk result IsAnswer }
         ensures quiet { IfOk result (λ a. is_quiet a ≡ true) }
         ensures is_open { OnOk result (self.new.log.closed ≡ false) }
         ensures told { is_some (D.content self.new.log.disk) ≡ is_some (D.content self.old.log.disk) }
@@ -65,6 +68,7 @@ impl<D: Disk, S: Store> Running<D, S> {
         ensures cause { HasCause (D.faults self.old.log.disk) (D.faults self.new.log.disk) result }
     {
         has_paths(request);
+        rows_have_one_form();
         match answer(alloc, &mut self.engine, &self.store, request) {
             Some(answer) => Ok(answer),
             None => self.force(alloc, clock, request),
@@ -98,8 +102,10 @@ impl<D: Disk, S: Store> Running<D, S> {
         ensures turns { IfOk result (Turns D.content D.left D.last S.rows self.old clock.old self.new clock.new request.now) }
         ensures faulted { OnErr result (Faults D.content D.left D.last S.rows self.old clock.old request.now) }
         ensures leaves { LeavesBetween D.content D.left D.last S.rows self.old clock.old self.new request.now }
+        ensures unrecorded { IfOk result (λ a. is_recorded request.now a ≡ false → self.new.log ≡ self.old.log) }
         ensures kept { OnOk result (Keeps S.rows S.room self.new) }
         ensures stays { Stays S.keeps S.staged self.old.store self.new.store }
+        ensures well_formed { IfOk result IsAnswer }
         ensures quiet { IfOk result (λ a. is_quiet a ≡ true) }
         ensures is_open { OnOk result (self.new.log.closed ≡ false) }
         ensures told { is_some (D.content self.new.log.disk) ≡ is_some (D.content self.old.log.disk) }

@@ -154,3 +154,8 @@ module _ (old : Image) (from shut : ℕ) (placed : List Placed) (records : Recor
     done_end =
         (let longer : shut + length bytes ≡ shut + record_length item = omega (arith, bytes_long) in longer)
         ∙ ap (λ (k : ℕ). k + record_length item) is_shut ∙ sym (end_more from placed item) ∙ ap (λ (k : ℕ). end_of from (placed ++ record { place = k; item = item } ∷ [])) (sym is_shut)
+
+-- nothing is taken away
+pub forced_longer : (shut : ℕ) (bytes old image : List ℕ) → Forced shut bytes old image → length old ≤ length image
+forced_longer shut bytes old image (inl torn) = torn.no_shorter
+forced_longer shut bytes old image (inr torn) = let staged = torn_written (shut + 1) bytes old in omega (arith, torn.no_shorter, staged.no_shorter)

@@ -145,6 +145,9 @@ impl<D: Disk> Log<D> {
         ensures stop { (from : ℕ) (placed : List Placed) (item : LogItem) → IsSettled D.content D.left D.last from placed self.old → D.last self.old.disk ≤ clock.old
             → HasRecord item → framed.now ≡ spelled item ++ 0 ∷ []
             → Leaves clock.old (D.left self.old.disk) (D.left self.new.disk) (λ m image. IsBeforeOrAfter from placed (record { place = self.old.end; item = item }) image) }
+        // They are no shorter than the disk as it read.
+        ensures longer { (from : ℕ) (placed : List Placed) (settled : IsSettled D.content D.left D.last from placed self.old) → D.last self.old.disk ≤ clock.old
+            → Leaves clock.old (D.left self.old.disk) (D.left self.new.disk) (λ m image. length settled.image ≤ length image) }
         // After Ok only the latter.
         ensures acknowledged { OnOk result ((from : ℕ) (placed : List Placed) (item : LogItem) → IsSettled D.content D.left D.last from placed self.old → D.last self.old.disk ≤ clock.old
             → HasRecord item → framed.now ≡ spelled item ++ 0 ∷ []

@@ -17,14 +17,13 @@ use Rattle.hb_types.proofs.Ascending.{Has-front, Has-back}
 use Rattle.hb_types.proofs.PutLaws.{by_test}
 use Rattle.hb_laws.specs.RowOrder.{AreAscending}
 use Rattle.hb_laws.proofs.RowLaws.{put_ascends}
-use Rattle.hb_store.specs.Meanings.{count_at}
+use Rattle.hb_store.specs.Meanings.{count_at, room_for}
 use Rattle.hb_disks.specs.Redo.{Prepared, Redone, after, changes_or, changes_of, redo_from, without_tx}
 use Rattle.hb_engine.specs.Fits.{doubts_of}
 use Rattle.hb_engine.proofs.Branches.{by_same, doubt_in, doubt_out, doubts_of-more, doubts_of-without_same, doubts_of-without_other, of_doubts_of, append_none}
 use Rattle.std.proofs.lemmas.List.{map-append}
 use Rattle.hb_engine.proofs.Refilling.{next_taken}
 use Rattle.hb_redo.specs.Damage.{count_ends, ends, items_of, left_by}
-use Rattle.hb_redo.specs.Restarts.{room_for}
 use Rattle.hb_redo.specs.Stages.{Counts, CountsEnds, Votes, HasVotes, VoteIs, changes_at, count_of, flat}
 
 -- ---- one branch

@@ -20,7 +20,7 @@ use Rattle.hb_types.specs.declared.places.Place.{Place}
 use Rattle.hb_types.specs.Lists.{Has}
 use Rattle.hb_types.specs.Put.{put_all}
 use Rattle.hb_laws.specs.RowOrder.{AreAscending}
-use Rattle.hb_store.specs.Meanings.{count_at}
+use Rattle.hb_store.specs.Meanings.{changes_in, count_at, room_for}
 use Rattle.hb_disks.specs.LogRules.{BranchFits}
 use Rattle.hb_disks.specs.Redo.{Prepared, Redone, after, changes_of, without_tx}
 use Rattle.hb_engine.specs.Fits.{doubts_of, Stands}
@@ -30,8 +30,7 @@ use Rattle.hb_engine.proofs.Branches.{append_none}
 use Rattle.hb_engine.proofs.Restoring.{risen, alike}
 use Rattle.hb_redo.specs.declared.pending.Pending.{Pending}
 use Rattle.hb_redo.specs.Damage.{IsBad, count_ends, ends, left_by}
-use Rattle.hb_redo.specs.Restarts.{room_for}
-use Rattle.hb_redo.specs.Stages.{HasVotes, Votes, Redoes, Takes, VoteIs, changes_at, changes_in, count_of}
+use Rattle.hb_redo.specs.Stages.{HasVotes, Votes, Redoes, Takes, VoteIs, changes_at, count_of}
 use Rattle.hb_redo.proofs.Leaving.{IsEnd, ends_pass, goes_more, left_end, none_left, put_all_ascends, room_for-more, stays_more, votes_end, votes_more}
 
 -- ---- what is remembered

@@ -20,6 +20,7 @@ use Rattle.hb_laws.specs.RowOrder.{AreAscending}
 use Rattle.hb_disks.specs.Redo.{Prepared, Redone, after, doubts, redo_from}
 use Rattle.hb_disks.specs.Says.{prepares}
 use Rattle.hb_disks.proofs.Fold.{redo_from-append, prepares-append}
+use Rattle.hb_store.specs.Meanings.{room_for}
 use Rattle.hb_runs.specs.Server.{SState}
 use Rattle.hb_engine.specs.Restores.{IsUpWith, Remembers}
 use Rattle.hb_engine.specs.Turned.{IsFresh, StandsFor}
@@ -28,7 +29,7 @@ use Rattle.hb_redo.specs.declared.fault.RedoFault.TheVariants as fault
 use Rattle.hb_redo.specs.declared.pending.Pending.{Pending}
 use Rattle.hb_redo.specs.declared.restart.Restarted.{Restarted}
 use Rattle.hb_redo.specs.Damage.{FirstBad, IsBad, IsBadAt, IsDamaged, NoneBad, items_of, left_by}
-use Rattle.hb_redo.specs.Restarts.{point_with, room_for}
+use Rattle.hb_redo.specs.Restarts.{point_with}
 use Rattle.hb_redo.specs.Stages.{CountsEnds, Redoes, Takes, VoteIs, Votes}
 use Rattle.hb_redo.proofs.Leaving.{items_taken, same_doubts}
 

@@ -5,7 +5,6 @@ use Rattle.std.specs.BTreeMap.{BTreeMap, get}
 use Rattle.std.specs.Ordering.{nat_cmp}
 use Rattle.hb_types.specs.declared.change.Change.{Change}
 use Rattle.hb_types.specs.declared.change.LogItem.{LogItem}
-use Rattle.hb_types.specs.declared.change.LogItem.TheVariants as item
 use Rattle.hb_types.specs.declared.change.Placed.{Placed}
 use Rattle.hb_types.specs.declared.change.Stored.{Stored}
 use Rattle.hb_types.specs.declared.names.Tx.{Tx}
@@ -13,11 +12,11 @@ use Rattle.hb_types.specs.declared.places.Place.{Place}
 use Rattle.hb_types.specs.Lists.{Has}
 use Rattle.hb_disks.specs.Redo.{Prepared, Redone, after}
 use Rattle.hb_disks.specs.Says.{prepares}
+use Rattle.hb_store.specs.Meanings.{changes_in, room_for}
 use Rattle.hb_engine.specs.Fits.{doubts_of}
 use Rattle.hb_engine.specs.Restores.{Remembers}
 use Rattle.hb_redo.specs.declared.pending.Pending.{Pending}
 use Rattle.hb_redo.specs.Damage.{IsBad, count_ends, ends, left_by}
-use Rattle.hb_redo.specs.Restarts.{room_for}
 
 -- ---- ends to come
 
@@ -37,10 +36,6 @@ EndIs i None = (t : ℕ) → ends t i ≡ false
 EndIs i (Some tx) = (t : ℕ) → ends t i ≡ (tx.0 == t)
 
 -- ---- votes so far
-
-abbrev pub changes_in : LogItem → List Change
-changes_in (item.Prepare tx floor locks changes) = changes
-changes_in _ = []
 
 -- the changes of the nth record
 abbrev pub changes_at : List Placed → ℕ → List Change

@@ -6,9 +6,9 @@ ghost use Rattle.hb_laws.specs.RowOrder.{AreAscending};
 ghost use Rattle.hb_runs.specs.Server.{SState};
 ghost use Rattle.hb_engine.specs.Restores.{IsUpWith};
 ghost use Rattle.hb_engine.specs.Turned.{StandsFor};
-ghost use Rattle.hb_store.specs.Meanings.{Stays};
+ghost use Rattle.hb_store.specs.Meanings.{room_for, Stays};
 ghost use Rattle.hb_redo.specs.Damage.{FirstBad, IsDamaged, NoneBad, items_of};
-ghost use Rattle.hb_redo.specs.Restarts.{redone, room_for};
+ghost use Rattle.hb_redo.specs.Restarts.{redone};
 
 use crate::ends::count;
 use crate::fault::RedoFault;

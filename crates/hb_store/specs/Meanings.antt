@@ -2,17 +2,30 @@
 use Rattle.std.specs.Prelude.{◌≡◌, ℕ, ◌+◌, ℤ, if◌then◌else◌, List, [], ◌∷◌, map, Option, Some, unwrap_or}
 use Rattle.hb_edge.specs.Images.{Image}
 use Rattle.hb_types.specs.declared.change.Change.{Change}
+use Rattle.hb_types.specs.declared.change.LogItem.{LogItem}
+use Rattle.hb_types.specs.declared.change.LogItem.TheVariants as item
 use Rattle.hb_types.specs.declared.change.Stored.{Stored}
 use Rattle.hb_types.specs.declared.places.Place.{Place}
 use Rattle.hb_types.specs.Places.{same_place, IsPlace}
 use Rattle.hb_types.specs.Rows.{IsRow}
 use Rattle.hb_disks.specs.Points.{Point, Format, no_point}
+use Rattle.hb_disks.specs.Redo.{Prepared}
 use Rattle.hb_store.specs.declared.point.Point.{Point as Mark}
 
 -- how many of the changes are at a place
 abbrev pub count_at : Place → List Change → ℕ
 count_at place [] = 0
 count_at place (c ∷ cs) = if same_place place c.place then count_at place cs + 1 else count_at place cs
+
+-- the changes of a vote
+abbrev pub changes_in : LogItem → List Change
+changes_in (item.Prepare tx floor locks changes) = changes
+changes_in _ = []
+
+-- for how many changes at a place branches that voted need memory
+abbrev pub room_for : Place → List Prepared → ℕ
+room_for place [] = 0
+room_for place (p ∷ ps) = count_at place p.changes + room_for place ps
 
 -- the keys of rows, in their order
 abbrev pub keys_of : List Stored → List ℤ

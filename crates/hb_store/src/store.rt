@@ -101,6 +101,7 @@ pub trait Store {
         ensures point { IfOk result (λ mark. (read : List ℕ) → D.content disk.old ≡ Some read
             → (p : Option Whole) × point_in read p × (mark ≡ mark_of (unwrap_or p no_point)) × (rows self.new ≡ (unwrap_or p no_point).rows)
             × IsOn keeps staged (D.content disk.new) (D.left disk.new (D.last disk.new)) self.new p) }
+        ensures in_range { IfOk result (λ mark. (mark.from ≤ 2 ^ 62) × (mark.floor.0 ≤ 2 ^ 62)) }
         ensures ascending { OnOk result (Ascends (λ a b. place_cmp a.place b.place) (rows self.new)) }
         ensures fit { OnOk result (All IsStored (rows self.new)) }
         ensures refused { OnErr result (rows self.new ≡ []) }

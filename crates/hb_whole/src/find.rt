@@ -9,7 +9,7 @@ ghost use Rattle.hb_disks.specs.Points.{Point as PointAt, no_point};
 ghost use Rattle.hb_disks.specs.WholeImage.{PointIs, is_open};
 ghost use Rattle.hb_whole.specs.Headers.{chosen};
 ghost use Rattle.hb_whole.specs.Kept.{AreKept, header_at};
-ghost use Rattle.hb_whole.specs.Points.{AreRows, IsDamaged, IsFound, IsQuiet};
+ghost use Rattle.hb_whole.specs.Points.{AreRows, IsDamaged, IsFound, IsMark, IsQuiet};
 ghost use Rattle.hb_whole.specs.Read.{IsImage};
 
 use crate::decode::rows_of_image;
@@ -38,6 +38,7 @@ fn nothing(alloc: Global) -> Found
     ensures valid { result.valid ≡ None }
     ensures spare_open { result.spare_open ≡ false }
     ensures point { result.point ≡ mark_of no_point }
+    ensures mark { IsMark result.point }
     ensures rows { result.rows ≡ [] }
 {
     Found {
@@ -142,6 +143,7 @@ fn read_point<D: Disk>(
     ensures found { IfOk result (λ found. (read : List ℕ) → D.content disk.old ≡ Some read → size ≡ length read → 129 ≤ size → headers.now ≡ take 128 read → chosen headers.now ≡ Some second
         → IsFound read found.valid found.spare_open found.point found.rows) }
     ensures rows { IfOk result (λ found. AreRows found.rows) }
+    ensures mark { IfOk result (λ found. IsMark found.point) }
     ensures damaged { (place : ℕ) → IsErrOf result (StoreFault.Damaged place) → (read : List ℕ) → D.content disk.old ≡ Some read → size ≡ length read → 129 ≤ size → headers.now ≡ take 128 read
         → chosen headers.now ≡ Some second → IsDamaged read place }
     ensures content { D.content disk.new ≡ D.content disk.old }
@@ -178,6 +180,7 @@ fn read_valid<D: Disk>(
     ensures found { IfOk result (λ found. (read : List ℕ) → D.content disk.old ≡ Some read → size ≡ length read → 129 ≤ size
         → IsFound read found.valid found.spare_open found.point found.rows) }
     ensures rows { IfOk result (λ found. AreRows found.rows) }
+    ensures mark { IfOk result (λ found. IsMark found.point) }
     ensures damaged { (place : ℕ) → IsErrOf result (StoreFault.Damaged place) → (read : List ℕ) → D.content disk.old ≡ Some read → size ≡ length read → 129 ≤ size → IsDamaged read place }
     ensures content { D.content disk.new ≡ D.content disk.old }
     ensures quiet { IsQuiet clock.old clock.new (D.left disk.old) (D.left disk.new) (D.last disk.old) (D.last disk.new) }
@@ -205,6 +208,7 @@ pub(crate) fn find<D: Disk>(
     ensures found { IfOk result (λ found. (read : List ℕ) → D.content disk.old ≡ Some read → (p : Option PointAt) × PointIs read p × (found.point ≡ mark_of (unwrap_or p no_point))
         × (found.rows ≡ (unwrap_or p no_point).rows) × AreKept (D.left disk.new (D.last disk.new)) found.valid found.spare_open p) }
     ensures rows { IfOk result (λ found. AreRows found.rows) }
+    ensures mark { IfOk result (λ found. IsMark found.point) }
     ensures damaged { (place : ℕ) → IsErrOf result (StoreFault.Damaged place) → (read : List ℕ) → D.content disk.old ≡ Some read → IsDamaged read place }
     ensures stop { (read : List ℕ) → D.content disk.old ≡ Some read → D.last disk.old ≤ clock.old
         → Leaves clock.old (D.left disk.old) (D.left disk.new) (λ m image. HoldsSame PointIs read image) }

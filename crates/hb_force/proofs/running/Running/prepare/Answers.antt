@@ -1,6 +1,8 @@
 use Rattle.std.proofs.Common.{refl, subst, arith, Some}
+use mathlib.Core.Logic.{∥∥₁_elim}
 use Rattle.hb_engine.specs.Ends.{IsVote}
 use Rattle.hb_types.specs.declared.request.Request.TheVariants as request
+use Rattle.hb_force.proofs.Once.{record_once}
 use Rattle.hb_force.proofs.Turning.{between_none, refused_turn, stays_up, vote_no_room, votes_record}
 use Rattle.hb_force.proofs.running.Running.prepare.Goals as goal
 
@@ -9,10 +11,9 @@ returns-in-Err-clause-leaves g c = λ from read s up.
     between_none g.D.Disk.content g.D.Disk.left g.D.Disk.last g.S.Store.rows from read s c.args.self.now c.args.clock.now up (request.Prepare c.args.tx) (g.met.D.Disk.stands c.args.self.now.log.disk)
 
 pub frame_vote-requires : goal.frame_vote-requires
-frame_vote-requires g c = λ short.
-    let k = c.requires.kept in
+frame_vote-requires g c = λ short. ∥∥₁_elim c.requires.kept (record_once c.rows_have_one_form.ensures.one_form c.in-Ok-Some.vote) (λ k.
     let v : IsVote k.state c.args.tx.0 (Some c.in-Ok-Some.vote) = subst (IsVote k.state c.args.tx.0) c.in-Ok-Some.field-0-is (c.in-Ok-Some.ensures (g.S.Store.rows c.args.self.now.store) k.state k.stands) in
-    votes_record c.args.self.now.engine (g.S.Store.rows c.args.self.now.store) k.state c.args.tx v.0 k.stands v.1 c.in-Ok-Some.vote v.2 k.sound short
+    votes_record c.args.self.now.engine (g.S.Store.rows c.args.self.now.store) k.state c.args.tx v.0 k.stands v.1 c.in-Ok-Some.vote v.2 k.sound short)
 
 pub returns-in-Err-frame_vote-clause-turns : goal.returns-in-Err-frame_vote-clause-turns
 returns-in-Err-frame_vote-clause-turns g c = λ from read s up.
@@ -29,7 +30,6 @@ returns-in-Err-frame_vote-clause-leaves g c = λ from read s up.
     between_none g.D.Disk.content g.D.Disk.left g.D.Disk.last g.S.Store.rows from read s c.args.self.now c.args.clock.now up (request.Prepare c.args.tx) (g.met.D.Disk.stands c.args.self.now.log.disk)
 
 pub force_vote-requires-clause-has_record : goal.force_vote-requires-clause-has_record
-force_vote-requires-clause-has_record g c =
-    let k = c.requires.kept in
+force_vote-requires-clause-has_record g c = ∥∥₁_elim c.requires.kept (record_once c.rows_have_one_form.ensures.one_form c.in-Ok-Some.vote) (λ k.
     let v : IsVote k.state c.args.tx.0 (Some c.in-Ok-Some.vote) = subst (IsVote k.state c.args.tx.0) c.in-Ok-Some.field-0-is (c.in-Ok-Some.ensures (g.S.Store.rows c.args.self.now.store) k.state k.stands) in
-    votes_record c.args.self.now.engine (g.S.Store.rows c.args.self.now.store) k.state c.args.tx v.0 k.stands v.1 c.in-Ok-Some.vote v.2 k.sound c.in-Ok.ensures.place.1
+    votes_record c.args.self.now.engine (g.S.Store.rows c.args.self.now.store) k.state c.args.tx v.0 k.stands v.1 c.in-Ok-Some.vote v.2 k.sound c.in-Ok.ensures.place.1)

@@ -4,7 +4,7 @@ use Rattle.hb_edge.specs.Runs.{weaker}
 use Rattle.hb_edge.specs.Stops.{Only}
 use Rattle.hb_types.specs.Records.{framed}
 use Rattle.hb_log.specs.Forced.{Forced}
-use Rattle.hb_log.proofs.Appending.{forced, done_records, done_long, done_end}
+use Rattle.hb_log.proofs.Appending.{forced, forced_longer, done_records, done_long, done_end}
 use Rattle.hb_log.proofs.log.Log.append_bytes.Goals as goal
 
 pub returns-in-Ok-clause-stop : goal.returns-in-Ok-clause-stop
@@ -40,3 +40,13 @@ returns-in-Ok-clause-acknowledged g c = λ from placed item settled in_time has_
       only = λ other is. only (g.D.Disk.last c.force.new.disk) other (omega (arith, c.force.ensures.last)) is;
       is_open = settled.is_open;
     }
+
+pub returns-in-Ok-clause-longer : goal.returns-in-Ok-clause-longer
+returns-in-Ok-clause-longer g c = λ from placed settled in_time.
+    weaker c.args.clock.now _ _ _ _ (λ m image le is. forced_longer c.args.self.now.end c.args.framed.now settled.image image is)
+    (c.force.ensures.stop settled.image settled.told settled.inside settled.only in_time)
+
+pub returns-in-Err-clause-longer : goal.returns-in-Err-clause-longer
+returns-in-Err-clause-longer g c = λ from placed settled in_time.
+    weaker c.args.clock.now _ _ _ _ (λ m image le is. forced_longer c.args.self.now.end c.args.framed.now settled.image image is)
+    (c.force.ensures.stop settled.image settled.told settled.inside settled.only in_time)

@@ -7,7 +7,8 @@ use Rattle.hb_types.specs.Lists.{Ascends}
 use Rattle.hb_types.specs.Records.{HasRecord}
 use Rattle.hb_branch.specs.Overlays.{change_cmp}
 use Rattle.hb_locks.specs.Locks.{lock_cmp}
-use Rattle.hb_redo.specs.Stages.{Redoes, Takes, changes_in}
+use Rattle.hb_store.specs.Meanings.{changes_in}
+use Rattle.hb_redo.specs.Stages.{Redoes, Takes}
 use Rattle.hb_redo.proofs.Staging.{changes_here, ended_abort, ended_commit, passes, passes_ids}
 use Rattle.hb_redo.proofs.pending.Pending.take.Goals as goal
 
