@@ -15,8 +15,10 @@ use Rattle.hb_disks.specs.Says.{decisions, uptos}
 use Rattle.hb_disks.specs.StandsFor.{greatest_upto}
 use Rattle.hb_disks.proofs.Fold.{decisions-append}
 use Rattle.hb_runs.specs.Coordinator.{greatest_number, ids_item, decision_item}
+use Rattle.hb_types.specs.Numbers.{IsNumber}
+use Rattle.hb_coord.specs.Numbers.{HasNumbers}
 use Rattle.hb_coord.specs.Memory.{Knows, number_of}
-use Rattle.hb_coord.specs.declared.recorded.Recorded.{Recorded}
+use Rattle.hb_coord.specs.declared.kept.Recorded.{Recorded}
 use Rattle.hb_coord.proofs.Maps.{got_same, got_other}
 
 uptos-append : (l m : List LogItem) → uptos (l ++ m) ≡ uptos l ++ uptos m
@@ -47,6 +49,14 @@ knows_ids log old new upto knows reserved number decided = record {
   decided = λ tx n got. subst (Has (λ (d : Decided). (d.tx ≡ tx) × (d.number ≡ n))) (sym (decisions-ids log upto)) (knows.decided tx n (ap (λ (m : BTreeMap ℕ ℕ). get nat_cmp m tx) (sym decided) ∙ got));
   undecided = λ tx none. subst (Each (λ (d : Decided). d.tx ≢ tx)) (sym (decisions-ids log upto)) (knows.undecided tx (ap (λ (m : BTreeMap ℕ ℕ). get nat_cmp m tx) (sym decided) ∙ none));
 }
+
+-- a number within its limits more
+pub numbers_more : (old new : BTreeMap ℕ ℕ) (tx n : ℕ) → HasNumbers old → IsNumber n → Updates nat_cmp old new tx (Some n) → HasNumbers new
+numbers_more old new tx n are is updates = λ t m got. ⊎_elim
+    (λ e. let both : Some n ≡ Some m = sym (subst (λ q. get nat_cmp new q ≡ Some n) e (got_same old new tx n updates)) ∙ got in
+    let same : n ≡ m = cc in subst IsNumber same is)
+    (λ ne. are t m (sym (got_other old new tx t n ne updates) ∙ got))
+    (cases_eq tx t)
 
 pub knows_decision : (log : List LogItem) (old new : Recorded) (tx n : ℕ) (nodes : List NodeName) → Knows log old → new.reserved ≡ old.reserved → new.number ≡ max old.number n → Updates nat_cmp old.decided new.decided tx (Some n)
     → Knows (log ++ decision_item tx n nodes ∷ []) new

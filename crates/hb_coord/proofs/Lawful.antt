@@ -61,7 +61,7 @@ fault_before k request.Start up right = absurd (subst (λ (b : Bool). RightIn b 
 fault_before k request.Stop up right = absurd (subst (λ (b : Bool). RightIn b k request.Stop (answer.Fault false)) up right)
 fault_before k q up right = absurd (subst (λ (b : Bool). RightIn b k q (answer.Fault false)) up right)
 
-fault_after : (k : CState) (q : Request) (e : CEffect) → Records k q e → Allowed k e → Right k q (answer.Fault false) → CTurns k (asking q (answer.Fault false)) (stopped_at (happens k e).log)
+pub fault_after : (k : CState) (q : Request) (e : CEffect) → Records k q e → Allowed k e → Right k q (answer.Fault false) → CTurns k (asking q (answer.Fault false)) (stopped_at (happens k e).log)
 fault_after k (request.Begin owner) e is allowed right = record { effects = e ∷ lost ∷ []; causes = inr (ap (λ (x : CEffect). x ∷ lost ∷ []) is.1); right = right; steps = (allowed, (tt, refl)) }
 fault_after k (request.Decide tx votes) e is allowed right = record { effects = e ∷ lost ∷ []; causes = inr (ap (λ (x : CEffect). x ∷ lost ∷ []) is); right = right; steps = (allowed, (tt, refl)) }
 fault_after k _ e is allowed right = absurd is
@@ -90,7 +90,7 @@ module _ {D : Type 0} (content : D → Option Image) (left : D → ℕ → Image
   -- ---- a start
 
   -- an image that is left in a start has the records of one that was left before
-  read_again : OneForm IsBodyOf → (disk : D) (moment : ℕ) (image : Image) → IsDown content left last first trail disk moment → WasLeft left last disk image → (items : List LogItem) × IsLog image items × CRun first trail (stopped_at items)
+  pub read_again : OneForm IsBodyOf → (disk : D) (moment : ℕ) (image : Image) → IsDown content left last first trail disk moment → WasLeft left last disk image → (items : List LogItem) × IsLog image items × CRun first trail (stopped_at items)
   read_again one disk moment image down (old, was, same) =
       let found = down.each old was in (found.0, record { has_items = same_items one old image found.0 same found.1.has_items; own = found.1.own }, found.2)
 

@@ -1,10 +1,11 @@
 mod Maps
 mod Knowing
 mod Reflecting
-mod Logging
+pub mod Logging
 mod Turning
 mod Recording
 mod Starting
-mod Lawful
+pub mod Lawful
+mod Leaving
+mod Counting
 mod Reading
-mod Ascents

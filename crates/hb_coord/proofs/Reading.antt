@@ -9,7 +9,7 @@ use Rattle.hb_disks.specs.StandsFor.{IsCoordinators}
 use Rattle.hb_coord.specs.Memory.{Knows}
 use Rattle.hb_coord.specs.Standing.{items_of}
 use Rattle.hb_coord.specs.Starts.{IsStrange}
-use Rattle.hb_coord.specs.declared.recorded.Recorded.{Recorded}
+use Rattle.hb_coord.specs.declared.kept.Recorded.{Recorded}
 use Rattle.hb_coord.proofs.Logging.{items-push}
 
 next_taken : (records : List Placed) (i : ℕ) (p : Placed) → i < length records → p ≡ get_or records i p → take (i + 1) records ≡ take i records ++ p ∷ []

@@ -5,7 +5,7 @@ use Rattle.std.specs.BTreeSet.{BTreeSet, contains, Updates as UpdatesSet}
 use Rattle.hb_types.specs.declared.change.LogItem.{LogItem}
 use Rattle.hb_runs.specs.Coordinator.{CState, happens, begun, ended}
 use Rattle.hb_coord.specs.Memory.{Knows, Reflects}
-use Rattle.hb_coord.specs.declared.ledger.Ledger.{Ledger}
+use Rattle.hb_coord.specs.declared.kept.Ledger.{Ledger}
 use Rattle.hb_coord.proofs.Maps.{has_more, has_less}
 
 pub reflects_begun : (k : CState) (old new : Ledger) → Reflects k old → new.recorded ≡ old.recorded → new.next ≡ old.next + 1 → UpdatesSet nat_cmp old.active new.active old.next true → Reflects (happens k (begun old.next)) new

@@ -1,14 +1,17 @@
 -- What the coordinator keeps: a run explains it, and each image that a stop leaves.
-use Rattle.std.specs.Prelude.{◌≡◌, ℕ, ◌≤◌, Bool, true, false, not, is_some, List, Option, None, IfSome}
+use Rattle.std.specs.Prelude.{◌≡◌, ◌⊎◌, ℕ, ◌+◌, ◌≤◌, Bool, true, false, not, if◌then◌else◌, is_some, List, [], ◌∷◌, ◌++◌, Option, None, IfSome}
+use Rattle.std.specs.Ordering.{nat_cmp}
+use Rattle.std.specs.BTreeSet.{btree_set_len, contains}
 use Rattle.hb_edge.specs.Fuses.{last_of, faults_of}
 use Rattle.hb_edge.specs.Images.{Image}
 use Rattle.hb_edge.specs.declared.fused.Fused.{Fused}
+use Rattle.hb_types.specs.declared.answer.Answer.{Answer}
 use Rattle.hb_types.specs.declared.change.LogItem.{LogItem}
 use Rattle.hb_types.specs.declared.request.Request.{Request}
 use Rattle.hb_types.specs.declared.request.Request.TheVariants as request
 use Rattle.hb_runs.specs.Coordinator.{CState, CRun, stopped_at}
 use Rattle.hb_runs.specs.ServerRuns.{Asked}
-use Rattle.hb_coord.specs.Standing.{IsLog, IsUp, IsBetween}
+use Rattle.hb_coord.specs.Standing.{IsLog, IsUp, IsBetween, asking}
 use Rattle.hb_coord.specs.Starts.{IsBadAt}
 use Rattle.hb_coord.specs.declared.state.State.{State}
 use Rattle.hb_coord.specs.declared.state.State.TheVariants.{Down, Up, Away}
@@ -34,6 +37,10 @@ Explains content left last first trail Away moment = ⊥
 -- a stop in this call leaves the log of a state to which the calls before it lead, or this with the record of the call
 abbrev pub IsLeftIn : CState → List Asked → Request → Image → Type 0
 IsLeftIn first trail q image = (k : CState) × CRun first trail k × IsBetween k q image
+
+-- a stop since the call leaves the log of a state to which the calls before it lead, or these and this one
+abbrev pub IsLeftBy : CState → List Asked → Request → Answer → Image → Type 0
+IsLeftBy first trail q a image = ((k : CState) × CRun first trail k × IsLog image k.log) ⊎ ((k : CState) × CRun first (trail ++ asking q a ∷ []) k × IsLog image k.log)
 
 -- ---- what every coordinator tells of its disk
 
@@ -80,3 +87,33 @@ most_calls request.Start = 5
 most_calls (request.Begin owner) = 4
 most_calls (request.Decide tx votes) = 4
 most_calls _ = 0
+
+-- ---- ends that may still come
+
+abbrev pub is_active_in : {D : Type 0} → State D → ℕ → Bool
+is_active_in (Up running) tx = contains nat_cmp running.ledger.active tx
+is_active_in (Down disk) tx = false
+is_active_in Away tx = false
+
+abbrev pub is_up_in : {D : Type 0} → State D → Bool
+is_up_in (Up running) = true
+is_up_in (Down disk) = false
+is_up_in Away = false
+
+-- the Abort of each active transaction, and the Stop of a coordinator that is up
+abbrev pub ends_in : {D : Type 0} → State D → ℕ
+ends_in (Up running) = btree_set_len running.ledger.active + 1
+ends_in (Down disk) = 0
+ends_in Away = 0
+
+-- those that come by this request
+abbrev pub ended_by : {D : Type 0} → State D → Request → ℕ
+ended_by state request.Stop = ends_in state
+ended_by state (request.Abort tx) = if is_active_in state tx.0 then 1 else 0
+ended_by state _ = 0
+
+-- those that it may add
+abbrev pub opened_by : Request → ℕ
+opened_by (request.Begin owner) = 1
+opened_by request.Start = 1
+opened_by _ = 0

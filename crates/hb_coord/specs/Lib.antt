@@ -1,5 +1,5 @@
+pub mod Numbers
 pub mod Memory
 pub mod Standing
 pub mod Starts
 pub mod Law
-pub mod Laws

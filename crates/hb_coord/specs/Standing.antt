@@ -1,5 +1,5 @@
 -- A coordinator that is up: its log, and the state that it is in.
-use Rattle.std.specs.Prelude.{◌≡◌, ◌⊎◌, ℕ, ◌+◌, ◌≤◌, ◌<◌, Bool, true, false, List, map, Option}
+use Rattle.std.specs.Prelude.{◌≡◌, ◌⊎◌, ℕ, ◌+◌, ◌≤◌, ◌<◌, Bool, true, false, List, [], map, Option, ⊤}
 use Rattle.hb_edge.specs.Images.{Image}
 use Rattle.hb_types.specs.declared.change.LogItem.{LogItem}
 use Rattle.hb_types.specs.declared.change.Placed.{Placed}
@@ -8,6 +8,7 @@ use Rattle.hb_types.specs.declared.answer.Answer.TheVariants as answer
 use Rattle.hb_types.specs.declared.request.Request.{Request}
 use Rattle.hb_types.specs.declared.request.Request.TheVariants as request
 use Rattle.hb_types.specs.Lists.{Each}
+use Rattle.hb_types.specs.Numbers.{IsNumber}
 use Rattle.hb_log.specs.declared.log.Log.{Log}
 use Rattle.hb_log.specs.Log.{IsSettled}
 use Rattle.hb_disks.specs.Images.{HasItems}
@@ -54,6 +55,30 @@ abbrev pub is_quiet : Answer → Bool
 is_quiet (answer.Fault area) = false
 is_quiet (answer.Damaged area place) = false
 is_quiet _ = true
+
+-- an answer of a coordinator: well formed, and without a list
+abbrev pub IsOwn : Answer → Type 0
+IsOwn (answer.Begun tx) = IsNumber tx.0
+IsOwn (answer.Decided number) = IsNumber number.0
+IsOwn (answer.Started doubts) = doubts ≡ []
+IsOwn answer.Active = ⊤
+IsOwn answer.Aborted = ⊤
+IsOwn answer.Done = ⊤
+IsOwn answer.Down = ⊤
+IsOwn answer.NotMine = ⊤
+IsOwn answer.NotActive = ⊤
+IsOwn answer.AlreadyUp = ⊤
+IsOwn answer.NumbersSpent = ⊤
+IsOwn (answer.Fault area) = ⊤
+IsOwn (answer.Damaged area place) = ⊤
+IsOwn answer.NoMemory = ⊤
+IsOwn _ = ⊥
+
+-- whether it tells of a record
+abbrev pub is_recording : Answer → Bool
+is_recording (answer.Begun tx) = true
+is_recording (answer.Decided number) = true
+is_recording _ = false
 
 -- whether it records nothing
 abbrev pub records_none : Request → Bool

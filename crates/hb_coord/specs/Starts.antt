@@ -11,7 +11,7 @@ use Rattle.hb_disks.specs.StandsFor.{IsCoordinators}
 use Rattle.hb_runs.specs.Coordinator.{happens, came_up, stopped_at}
 use Rattle.hb_coord.specs.Memory.{Knows}
 use Rattle.hb_coord.specs.Standing.{IsLog, IsUp}
-use Rattle.hb_coord.specs.declared.recorded.Recorded.{Recorded}
+use Rattle.hb_coord.specs.declared.kept.Recorded.{Recorded}
 use Rattle.hb_coord.specs.declared.running.Running.{Running}
 
 -- the first of these records that is of another node stands at this place

@@ -8,7 +8,7 @@ ghost use Rattle.hb_types.specs.Records.{HasRecord, framed as spelled, record_le
 ghost use Rattle.hb_types.specs.Calls.{AreVotes};
 ghost use Rattle.hb_disks.specs.Images.{HasItems};
 ghost use Rattle.hb_runs.specs.Coordinator.{nodes_of, decision_item};
-ghost use Rattle.hb_coord.specs.Standing.{HasLog, is_quiet};
+ghost use Rattle.hb_coord.specs.Standing.{HasLog, IsOwn, is_quiet, is_recording};
 
 use crate::recorded::GREATEST;
 use hb_codec::{Framed, encode_record};
@@ -51,6 +51,8 @@ impl Refusal {
         ensures spent { self ≡ Refusal.Spent → result ≡ Answer.NumbersSpent }
         ensures no_memory { self ≡ Refusal.NoMemory → result ≡ Answer.NoMemory }
         ensures quiet { is_quiet result ≡ true }
+        ensures own { IsOwn result }
+        ensures none { is_recording result ≡ false }
     {
         match self {
             Refusal::Spent => Answer::NumbersSpent,

@@ -6,7 +6,7 @@
 
 mod coordinator;
 mod forcing;
-mod laws;
+mod kept;
 mod ledger;
 mod recorded;
 mod running;
@@ -15,7 +15,6 @@ mod state;
 mod turn;
 
 pub use coordinator::Coordinator;
-pub use laws::{decisions_grow, transactions_ascend};
 pub use state::State;
 
 #[cfg(test)]

@@ -4,8 +4,10 @@ ghost use Rattle.hb_types.specs.declared.change.LogItem.{LogItem};
 ghost use Rattle.hb_types.specs.declared.names.NodeName.{NodeName};
 ghost use Rattle.hb_types.specs.declared.request.Vote.{Vote};
 ghost use Rattle.hb_runs.specs.Coordinator.{ids_item, decision_item, next_number as next_number_in, next_upto as next_upto_in, greatest_floor, CState};
+ghost use Rattle.hb_types.specs.Numbers.{IsNumber};
 ghost use Rattle.hb_coord.specs.Memory.{Knows, number_of};
 
+use crate::kept::Recorded;
 use hb_types::{NoMemory, Number, Tx, Vote};
 use std::alloc::Global;
 use std::collections::BTreeMap;
@@ -15,15 +17,6 @@ pub(crate) const GREATEST: u64 = 1 << 62;
 
 /// How many transactions are reserved at a time.
 const RESERVED_AT_ONCE: u64 = 1_000;
-
-/// What the log says: up to which number transactions are reserved, the greatest commit number, and the number of each
-/// transaction that is decided.
-#[derive(Drop)]
-pub struct Recorded {
-    pub reserved: u64,
-    pub number: u64,
-    pub decided: BTreeMap<u64, u64>,
-}
 
 impl Recorded {
     pub(crate) fn new(alloc: Global) -> Recorded
@@ -59,6 +52,7 @@ impl Recorded {
     pub(crate) fn number_of(&self, tx: Tx) -> Option<Number>
         ensures none { (log : List LogItem) → Knows log self.now → result ≡ None → number_of self.now tx.0 ≡ None }
         ensures some { (n : Number) → result ≡ Some n → number_of self.now tx.0 ≡ Some n.0 }
+        ensures number { IfSome result (λ n. IsNumber n.0) }
     {
         self.decided.get(&tx.0).map(|n| Number(*n))
     }
@@ -72,6 +66,7 @@ impl Recorded {
 
     /// Notes a decision.
     pub(crate) fn decide(&mut self, tx: Tx, number: Number) -> Result<(), NoMemory>
+        requires { IsNumber number.0 }
         ensures ok { OnOk result ((log : List LogItem) (nodes : List NodeName) → Knows log self.old → Knows (log ++ decision_item tx.0 number.0 nodes ∷ []) self.new) }
         ensures err { OnErr result ((log : List LogItem) → Knows log self.old → Knows log self.new) }
     {

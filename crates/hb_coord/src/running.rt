@@ -1,5 +1,5 @@
 // A coordinator that is up.
-ghost use Rattle.std.specs.Prelude.{◌≡◌, ◌≤◌, ◌+◌, ◌<◌, ◌^◌, true, false, is_some, IfOk, OnOk, OnErr};
+ghost use Rattle.std.specs.Prelude.{◌≡◌, ◌≢◌, ◌≤◌, ◌+◌, ◌<◌, ◌^◌, true, false, is_some, IfOk, OnOk, OnErr};
 ghost use Rattle.hb_edge.specs.Causes.{HasCause};
 ghost use Rattle.hb_edge.specs.Stops.{Leaves};
 ghost use Rattle.hb_types.specs.declared.answer.Answer.TheVariants as answer;
@@ -7,11 +7,13 @@ ghost use Rattle.hb_types.specs.declared.names.Owner.{Owner};
 ghost use Rattle.hb_types.specs.declared.request.Request.TheVariants as request;
 ghost use Rattle.hb_types.specs.Calls.{AreVotes, IsRequest};
 ghost use Rattle.hb_types.specs.Numbers.{IsNumber};
-ghost use Rattle.hb_runs.specs.Coordinator.{CState, CTurns, Right};
-ghost use Rattle.hb_coord.specs.Standing.{IsUp, IsBetween, asking, is_quiet, records_none};
+ghost use Rattle.hb_runs.specs.Coordinator.{CState, CTurns, Right, takes_none};
+ghost use Rattle.std.specs.BTreeSet.{btree_set_len};
+ghost use Rattle.hb_coord.specs.Memory.{active_begun, active_ended};
+ghost use Rattle.hb_coord.specs.Standing.{IsUp, IsBetween, IsOwn, asking, is_quiet, is_recording, records_none};
 
 use crate::forcing::{append, decision, frame};
-use crate::ledger::Ledger;
+use crate::kept::Ledger;
 use crate::recorded::GREATEST;
 use hb_edge::{Clock, Disk, Failed};
 use hb_log::Log;
@@ -40,6 +42,10 @@ impl<D: Disk> Running<D> {
         ensures faulted { OnErr result ((k : CState) → IsUp D.content D.left D.last k self.old clock.old → Right k request.now (answer.Fault false)) }
         ensures leaves { (k : CState) → IsUp D.content D.left D.last k self.old clock.old → Leaves clock.old (D.left self.old.log.disk) (D.left self.new.log.disk) (λ m image. IsBetween k request.now image) }
         ensures quiet { IfOk result (λ a. is_quiet a ≡ true) }
+        ensures memory { IfOk result (λ a. takes_none request.now ≡ true → a ≢ answer.NoMemory) }
+        ensures own { IfOk result IsOwn }
+        ensures none { IfOk result (λ a. is_recording a ≡ false → clock.new ≡ clock.old) }
+        ensures count { btree_set_len self.new.ledger.active + active_ended self.old.ledger request.now ≤ btree_set_len self.old.ledger.active + active_begun request.now }
         ensures is_open { OnOk result (self.new.log.closed ≡ false) }
         ensures told { is_some (D.content self.new.log.disk) ≡ is_some (D.content self.old.log.disk) }
         ensures clock { (clock.old ≤ clock.new) × (clock.new ≤ clock.old + 4) }
@@ -67,6 +73,9 @@ impl<D: Disk> Running<D> {
         ensures faulted { OnErr result ((k : CState) → IsUp D.content D.left D.last k self.old clock.old → Right k (request.Begin owner) (answer.Fault false)) }
         ensures leaves { (k : CState) → IsUp D.content D.left D.last k self.old clock.old → Leaves clock.old (D.left self.old.log.disk) (D.left self.new.log.disk) (λ m image. IsBetween k (request.Begin owner) image) }
         ensures quiet { IfOk result (λ a. is_quiet a ≡ true) }
+        ensures own { IfOk result IsOwn }
+        ensures none { IfOk result (λ a. is_recording a ≡ false → clock.new ≡ clock.old) }
+        ensures count { btree_set_len self.new.ledger.active ≤ btree_set_len self.old.ledger.active + 1 }
         ensures is_open { OnOk result (self.new.log.closed ≡ false) }
         ensures told { is_some (D.content self.new.log.disk) ≡ is_some (D.content self.old.log.disk) }
         ensures clock { (clock.old ≤ clock.new) × (clock.new ≤ clock.old + 4) }
@@ -94,6 +103,9 @@ impl<D: Disk> Running<D> {
         ensures faulted { OnErr result ((k : CState) → IsUp D.content D.left D.last k self.old clock.old → Right k (request.Begin _owner) (answer.Fault false)) }
         ensures leaves { (k : CState) → IsUp D.content D.left D.last k self.old clock.old → Leaves clock.old (D.left self.old.log.disk) (D.left self.new.log.disk) (λ m image. IsBetween k (request.Begin _owner) image) }
         ensures quiet { IfOk result (λ a. is_quiet a ≡ true) }
+        ensures own { IfOk result IsOwn }
+        ensures none { IfOk result (λ a. is_recording a ≡ false → clock.new ≡ clock.old) }
+        ensures count { btree_set_len self.new.ledger.active ≤ btree_set_len self.old.ledger.active + 1 }
         ensures is_open { OnOk result (self.new.log.closed ≡ false) }
         ensures told { is_some (D.content self.new.log.disk) ≡ is_some (D.content self.old.log.disk) }
         ensures clock { (clock.old ≤ clock.new) × (clock.new ≤ clock.old + 4) }
@@ -129,6 +141,9 @@ impl<D: Disk> Running<D> {
         ensures faulted { OnErr result ((k : CState) → IsUp D.content D.left D.last k self.old clock.old → Right k (request.Decide tx votes.now) (answer.Fault false)) }
         ensures leaves { (k : CState) → IsUp D.content D.left D.last k self.old clock.old → Leaves clock.old (D.left self.old.log.disk) (D.left self.new.log.disk) (λ m image. IsBetween k (request.Decide tx votes.now) image) }
         ensures quiet { IfOk result (λ a. is_quiet a ≡ true) }
+        ensures own { IfOk result IsOwn }
+        ensures none { IfOk result (λ a. is_recording a ≡ false → clock.new ≡ clock.old) }
+        ensures count { btree_set_len self.new.ledger.active ≤ btree_set_len self.old.ledger.active }
         ensures is_open { OnOk result (self.new.log.closed ≡ false) }
         ensures told { is_some (D.content self.new.log.disk) ≡ is_some (D.content self.old.log.disk) }
         ensures clock { (clock.old ≤ clock.new) × (clock.new ≤ clock.old + 4) }

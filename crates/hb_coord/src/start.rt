@@ -1,18 +1,19 @@
 // A start: the disk is restarted, and its log is read.
-ghost use Rattle.std.specs.Prelude.{◌≡◌, ◌+◌, ◌≤◌, ◌<◌, ◌^◌, ℕ, true, false, is_some, IfOk, IfErr, IfSome, List, ◌++◌, ◌∷◌, []};
+ghost use Rattle.std.specs.Prelude.{◌≡◌, ◌+◌, ◌≤◌, ◌<◌, ◌^◌, ℕ, true, false, is_some, All, IfOk, IfErr, IfSome, List, ◌++◌, ◌∷◌, []};
+ghost use Rattle.std.specs.BTreeSet.{btree_set_len};
 ghost use Rattle.hb_edge.specs.Causes.{Rose};
 ghost use Rattle.hb_edge.specs.Stops.{Leaves};
 ghost use Rattle.hb_types.specs.declared.change.LogItem.{LogItem};
 ghost use Rattle.hb_types.specs.declared.change.Placed.{Placed};
 ghost use Rattle.hb_types.specs.Lists.{Each};
+ghost use Rattle.hb_types.specs.Records.{HasRecord};
 ghost use Rattle.hb_disks.specs.StandsFor.{IsCoordinators, greatest_upto};
 ghost use Rattle.hb_runs.specs.Coordinator.{happens, came_up, stopped_at};
 ghost use Rattle.hb_coord.specs.Memory.{Knows, Reflects};
 ghost use Rattle.hb_coord.specs.Standing.{items_of};
 ghost use Rattle.hb_coord.specs.Starts.{IsBadAt, IsStrange, Starts, WasLeft, Takes};
 
-use crate::ledger::Ledger;
-use crate::recorded::Recorded;
+use crate::kept::{Ledger, Recorded};
 use crate::running::Running;
 use hb_codec::records_have_one_form;
 use hb_edge::{Clock, Disk, Failed};
@@ -23,6 +24,7 @@ use std::collections::BTreeSet;
 
 /// Takes a record, and tells whether it is a coordinator's.
 fn take(recorded: &mut Recorded, item: &LogItem) -> Result<bool, NoMemory>
+    requires { HasRecord item.now }
     ensures { IfOk result (λ own. (log : List LogItem) → Knows log recorded.old → Takes log item.now recorded.new own) }
 {
     match item {
@@ -40,6 +42,7 @@ fn take(recorded: &mut Recorded, item: &LogItem) -> Result<bool, NoMemory>
 
 /// What the records of a log say.
 fn read_all(alloc: Global, records: &[Placed]) -> Result<Recorded, LogFault>
+    requires { All (λ p. HasRecord p.item) records.now }
     ensures knows { IfOk result (Knows (items_of records.now)) }
     ensures own { IfOk result (λ _. Each IsCoordinators (items_of records.now)) }
     ensures strange { IfErr result (λ fault. (place : ℕ) → fault ≡ LogFault.Damaged place → IsStrange records.now place) }
@@ -62,7 +65,8 @@ fn read_all(alloc: Global, records: &[Placed]) -> Result<Recorded, LogFault>
 
 /// What a coordinator that comes up knows.
 fn come_up(alloc: Global, recorded: Recorded) -> Ledger
-    ensures { (log : List LogItem) → Knows log recorded → greatest_upto log ≤ 2 ^ 62 → Reflects (happens (stopped_at log) came_up) result }
+    ensures reflects { (log : List LogItem) → Knows log recorded → greatest_upto log ≤ 2 ^ 62 → Reflects (happens (stopped_at log) came_up) result }
+    ensures count { btree_set_len result.active ≡ 0 }
 {
     let next = recorded.reserved.saturating_add(1);
     Ledger {
@@ -87,6 +91,7 @@ pub(crate) fn start<D: Disk>(
     ensures fault { IfErr result (λ e. e.0 ≡ LogFault.Fault → Rose (D.faults disk) (D.faults e.1)) }
     ensures not_closed { IfErr result (λ e. e.0 ≡ LogFault.Closed → ⊥) }
     ensures is_open { IfOk result (λ r. r.log.closed ≡ false) }
+    ensures active { IfOk result (λ r. btree_set_len r.ledger.active ≡ 0) }
     ensures told { IfOk result (λ r. is_some (D.content r.log.disk) ≡ is_some (D.content disk)) }
     ensures told_err { IfErr result (λ e. is_some (D.content e.1) ≡ is_some (D.content disk)) }
     ensures count { IfOk result (λ r. D.faults disk ≤ D.faults r.log.disk) }

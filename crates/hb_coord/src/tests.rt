@@ -59,17 +59,17 @@ fn empty(alloc: Global) -> Coordinator<MemDisk> {
 }
 
 fn begin(fes: &mut Coordinator<MemDisk>, clock: &mut Clock) -> (u8, u64) {
-    told(fes.ask(clock, Request::Begin { owner: OWNER }))
+    told(fes.ask(clock, &Request::Begin { owner: OWNER }))
 }
 
 fn start(fes: &mut Coordinator<MemDisk>, clock: &mut Clock) -> (u8, u64) {
-    told(fes.ask(clock, Request::Start))
+    told(fes.ask(clock, &Request::Start))
 }
 
 fn outcome(fes: &mut Coordinator<MemDisk>, clock: &mut Clock, tx: u64) -> (u8, u64)
     requires { IsNumber tx }
 {
-    told(fes.ask(clock, Request::Outcome { tx: Tx(tx) }))
+    told(fes.ask(clock, &Request::Outcome { tx: Tx(tx) }))
 }
 
 fn decide(
@@ -84,7 +84,7 @@ fn decide(
     requires floor { vote.1 ≤ 2 ^ 62 }
 {
     let votes = votes_of(alloc, vote.0, vote.1)?;
-    Ok(told(fes.ask(clock, Request::Decide { tx: Tx(tx), votes })))
+    Ok(told(fes.ask(clock, &Request::Decide { tx: Tx(tx), votes })))
 }
 
 fn until_stop(
@@ -124,7 +124,7 @@ fn numbers_go_on_over_a_restart(rt: HostRuntime) -> Result<(), Fail> {
         first,
         [(6, 0), (1, 1), (1, 2), (2, 5), (2, 6), (2, 6), (3, 0)]
     );
-    assert_eq!(rt; told(fes.ask(&mut clock, Request::Stop)), (5, 0));
+    assert_eq!(rt; told(fes.ask(&mut clock, &Request::Stop)), (5, 0));
     let then = from_start(&mut fes, &mut clock);
     assert_eq!(rt; then, [(7, 0), (6, 0), (2, 5), (4, 0), (1, 1001)]);
     Ok(())

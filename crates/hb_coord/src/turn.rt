@@ -1,13 +1,15 @@
 // One request, asked of a coordinator that is up or down.
-ghost use Rattle.std.specs.Prelude.{◌≡◌, ◌+◌, ◌++◌, ◌∷◌, [], ◌≤◌, ℕ, Bool, true, false, is_some, List};
+ghost use Rattle.std.specs.Prelude.{◌≡◌, ◌≢◌, ◌+◌, ◌++◌, ◌∷◌, [], ◌≤◌, ℕ, Bool, true, false, is_some, List};
 ghost use Rattle.hb_edge.specs.Causes.{Rose};
 ghost use Rattle.hb_edge.specs.Stops.{Leaves};
 ghost use Rattle.hb_types.specs.Calls.{IsRequest};
-ghost use Rattle.hb_runs.specs.Coordinator.{CState};
+ghost use Rattle.hb_runs.specs.Coordinator.{CState, takes_none};
+ghost use Rattle.hb_types.specs.declared.answer.Answer.TheVariants as answer;
 ghost use Rattle.hb_runs.specs.ServerRuns.{Asked};
 ghost use Rattle.hb_coord.specs.declared.state.State.TheVariants as state;
-ghost use Rattle.hb_coord.specs.Law.{Explains, IsLeftIn, IsDamage, has_open_log, content_in, left_in, last_in, faults_in, most_calls};
-ghost use Rattle.hb_coord.specs.Standing.{asking};
+ghost use Rattle.hb_coord.specs.Law.{Explains, IsLeftIn, IsLeftBy, IsDamage, has_open_log, content_in, left_in, last_in, faults_in, most_calls, ends_in, ended_by, opened_by};
+ghost use Rattle.hb_edge.specs.Images.{Image};
+ghost use Rattle.hb_coord.specs.Standing.{IsOwn, asking};
 
 use crate::running::Running;
 use crate::start::start;
@@ -23,6 +25,7 @@ fn fault_answer(fault: LogFault) -> Answer
     ensures fault { fault ≡ LogFault.Fault → result ≡ Answer.Fault false }
     ensures damaged { (place : ℕ) → fault ≡ LogFault.Damaged place → result ≡ Answer.Damaged false place }
     ensures no_memory { fault ≡ LogFault.NoMemory → result ≡ Answer.NoMemory }
+    ensures own { IsOwn result }
 {
     match fault {
         LogFault::Fault | LogFault::Closed => Answer::Fault { area: false },
@@ -40,6 +43,10 @@ fn wake<D: Disk>(
 ) -> (State<D>, Answer)
     ensures run { (first : CState) (trail : List Asked) → Explains D.content D.left D.last first trail (state.Down disk) clock.old → Explains D.content D.left D.last first (trail ++ asking request.now result.1 ∷ []) result.0 clock.new }
     ensures stop { (first : CState) (trail : List Asked) → Explains D.content D.left D.last first trail (state.Down disk) clock.old → Leaves clock.old (left_in D.left (state.Down disk)) (left_in D.left result.0) (λ m image. IsLeftIn first trail request.now image) }
+    ensures left_by { (first : CState) (trail : List Asked) → Explains D.content D.left D.last first trail (state.Down disk) clock.old → (m : ℕ) (image : Image) → clock.old ≤ m → left_in D.left result.0 m image → IsLeftBy first trail request.now result.1 image }
+    ensures own { IsOwn result.1 }
+    ensures memory { takes_none request.now ≡ true → result.1 ≢ answer.NoMemory }
+    ensures ends { ends_in result.0 + ended_by (state.Down disk) request.now ≤ ends_in (state.Down disk) + opened_by request.now }
     ensures fault { (area : Bool) → result.1 ≡ Answer.Fault area → (area ≡ false) × Rose (faults_in D.faults (state.Down disk)) (faults_in D.faults result.0) }
     ensures damaged { (area : Bool) (place : ℕ) → result.1 ≡ Answer.Damaged area place → is_some (content_in D.content (state.Down disk)) ≡ true → IsDamage (content_in D.content result.0) area place }
     ensures told { is_some (content_in D.content result.0) ≡ is_some (content_in D.content (state.Down disk)) }
@@ -58,6 +65,9 @@ fn wake<D: Disk>(
 fn begin_again<D: Disk>(alloc: Global, disk: Fused<D>, clock: &mut Clock) -> (State<D>, Answer)
     ensures run { (first : CState) (trail : List Asked) → Explains D.content D.left D.last first trail (state.Down disk) clock.old → Explains D.content D.left D.last first (trail ++ asking Request.Start result.1 ∷ []) result.0 clock.new }
     ensures stop { (first : CState) (trail : List Asked) → Explains D.content D.left D.last first trail (state.Down disk) clock.old → Leaves clock.old (left_in D.left (state.Down disk)) (left_in D.left result.0) (λ m image. IsLeftIn first trail Request.Start image) }
+    ensures left_by { (first : CState) (trail : List Asked) → Explains D.content D.left D.last first trail (state.Down disk) clock.old → (m : ℕ) (image : Image) → clock.old ≤ m → left_in D.left result.0 m image → IsLeftBy first trail Request.Start result.1 image }
+    ensures own { IsOwn result.1 }
+    ensures ends { ends_in result.0 + ended_by (state.Down disk) Request.Start ≤ ends_in (state.Down disk) + opened_by Request.Start }
     ensures fault { (area : Bool) → result.1 ≡ Answer.Fault area → (area ≡ false) × Rose (faults_in D.faults (state.Down disk)) (faults_in D.faults result.0) }
     ensures damaged { (area : Bool) (place : ℕ) → result.1 ≡ Answer.Damaged area place → is_some (content_in D.content (state.Down disk)) ≡ true → IsDamage (content_in D.content result.0) area place }
     ensures told { is_some (content_in D.content result.0) ≡ is_some (content_in D.content (state.Down disk)) }
@@ -89,6 +99,10 @@ fn work<D: Disk>(
     requires well_formed { IsRequest request.now }
     ensures run { (first : CState) (trail : List Asked) → Explains D.content D.left D.last first trail (state.Up running) clock.old → Explains D.content D.left D.last first (trail ++ asking request.now result.1 ∷ []) result.0 clock.new }
     ensures stop { (first : CState) (trail : List Asked) → Explains D.content D.left D.last first trail (state.Up running) clock.old → Leaves clock.old (left_in D.left (state.Up running)) (left_in D.left result.0) (λ m image. IsLeftIn first trail request.now image) }
+    ensures left_by { (first : CState) (trail : List Asked) → Explains D.content D.left D.last first trail (state.Up running) clock.old → (m : ℕ) (image : Image) → clock.old ≤ m → left_in D.left result.0 m image → IsLeftBy first trail request.now result.1 image }
+    ensures own { IsOwn result.1 }
+    ensures memory { takes_none request.now ≡ true → result.1 ≢ answer.NoMemory }
+    ensures ends { ends_in result.0 + ended_by (state.Up running) request.now ≤ ends_in (state.Up running) + opened_by request.now }
     ensures fault { (area : Bool) → result.1 ≡ Answer.Fault area → (area ≡ false) × Rose (faults_in D.faults (state.Up running)) (faults_in D.faults result.0) }
     ensures damaged { (area : Bool) (place : ℕ) → result.1 ≡ Answer.Damaged area place → is_some (content_in D.content (state.Up running)) ≡ true → IsDamage (content_in D.content result.0) area place }
     ensures told { is_some (content_in D.content result.0) ≡ is_some (content_in D.content (state.Up running)) }
@@ -121,6 +135,10 @@ pub(crate) fn turn<D: Disk>(
     requires well_formed { IsRequest request.now }
     ensures run { (first : CState) (trail : List Asked) → Explains D.content D.left D.last first trail state clock.old → Explains D.content D.left D.last first (trail ++ asking request.now result.1 ∷ []) result.0 clock.new }
     ensures stop { (first : CState) (trail : List Asked) → Explains D.content D.left D.last first trail state clock.old → Leaves clock.old (left_in D.left state) (left_in D.left result.0) (λ m image. IsLeftIn first trail request.now image) }
+    ensures left_by { (first : CState) (trail : List Asked) → Explains D.content D.left D.last first trail state clock.old → (m : ℕ) (image : Image) → clock.old ≤ m → left_in D.left result.0 m image → IsLeftBy first trail request.now result.1 image }
+    ensures own { IsOwn result.1 }
+    ensures memory { takes_none request.now ≡ true → result.1 ≢ answer.NoMemory }
+    ensures ends { ends_in result.0 + ended_by state request.now ≤ ends_in state + opened_by request.now }
     ensures fault { (area : Bool) → result.1 ≡ Answer.Fault area → (area ≡ false) × Rose (faults_in D.faults state) (faults_in D.faults result.0) }
     ensures damaged { (area : Bool) (place : ℕ) → result.1 ≡ Answer.Damaged area place → is_some (content_in D.content state) ≡ true → IsDamage (content_in D.content result.0) area place }
     ensures told { is_some (content_in D.content result.0) ≡ is_some (content_in D.content state) }

@@ -1,5 +1,5 @@
 -- The local law of a node: its trail is a run, and so is what each image of its disks has.
-use Rattle.std.specs.Prelude.{◌≡◌, ℕ, ◌≤◌, true, ◌⊎◌, List, [], ◌∷◌, ◌++◌, map}
+use Rattle.std.specs.Prelude.{◌≡◌, ℕ, ◌≤◌, ◌<◌, true, ◌⊎◌, List, [], ◌∷◌, ◌++◌, map}
 use Rattle.hb_edge.specs.Images.{Image}
 use Rattle.hb_types.specs.declared.change.Placed.{Placed}
 use Rattle.hb_types.specs.declared.answer.Answer.{Answer}
@@ -74,7 +74,8 @@ abbrev pub Explains : State → List Asked → Image → Type 0
 Explains origin asked log = (t : State) × Runs origin asked t × HasLog log t
 
 -- What a stop since the start of a call may leave on the log: what the calls before it made, or these and this one; and after it
--- what the trail says.
-pub record Images (origin : State) (old new : List TrailEntry) (e : TrailEntry) (leaves : ℕ → Image → Image → Type 0) : Type 0 where
+-- what the trail says. Before it, what it was.
+pub record Images (origin : State) (old new : List TrailEntry) (e : TrailEntry) (left leaves : ℕ → Image → Image → Type 0) : Type 0 where
+  pub before : (m : ℕ) (log area : Image) → m < e.from → leaves m log area → left m log area
   pub within : (m : ℕ) (log area : Image) → e.from ≤ m → leaves m log area → Explains origin (asked_of old) log ⊎ Explains origin (asked_of old ++ asked_in e ∷ []) log
   pub after : (m : ℕ) (log area : Image) → e.to ≤ m → leaves m log area → Explains origin (asked_of new) log

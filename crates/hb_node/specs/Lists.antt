@@ -33,3 +33,8 @@ Stays name old new = (new ≡ old) ⊎ ((name ≡ 10) × (node : NodeName) × (a
 pub record OneMore (old new : Lists) (node : ℕ) (q : Request) (a : Answer) : Type 0 where
   pub asked_one : Grows (old node) (new node) q a
   pub others : (name : ℕ) → name ≢ node → Stays name (old name) (new name)
+
+-- by calls one behind another, of each of which this is so
+pub data Onward {N : Type 0} (goes : N → N → Type 0) (from : N) : N → Type 0 where
+  here : Onward goes from from
+  onward : (mid to : N) → Onward goes from mid → goes mid to → Onward goes from to

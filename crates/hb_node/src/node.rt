@@ -20,6 +20,9 @@ pub trait Node {
     /// Where its disks tell their content: a stop at this moment may leave these images on its log and its area disk.
     ghost leaves: { Self → ℕ → List ℕ → List ℕ → Type 0 };
 
+    /// The moment of the last call of its disks.
+    ghost last: { Self → ℕ };
+
     /// How often its disks failed.
     ghost faults: { Self → ℕ };
 
@@ -38,13 +41,13 @@ pub trait Node {
         ensures name { named self.new ≡ named self.old }
         ensures entered { Enters (trail self.old) (trail self.new) (entry_of request result clock.old clock.new) }
 
-        // Where its trail explained the node from a state on, it does still.
-        ensures law { (origin : State) → explains self.old origin (asked_of (trail self.old)) → explains self.new origin (asked_of (trail self.new)) }
+        // Where its trail explained the node from a state on, it does still. Here and below the clock is not behind its disks.
+        ensures law { (origin : State) → explains self.old origin (asked_of (trail self.old)) → last self.old ≤ clock.old → explains self.new origin (asked_of (trail self.new)) }
 
         // What its disks may hold since the call began is what a run of these calls makes of the log; before it, what it was.
-        ensures images { (origin : State) → explains self.old origin (asked_of (trail self.old))
-            → Images origin (trail self.old) (trail self.new) (entry_of request result clock.old clock.new) (leaves self.new) }
-        ensures before { (m : ℕ) (log area : List ℕ) → m < clock.old → leaves self.new m log area → leaves self.old m log area }
+        ensures images { (origin : State) → explains self.old origin (asked_of (trail self.old)) → last self.old ≤ clock.old
+            → Images origin (trail self.old) (trail self.new) (entry_of request result clock.old clock.new) (leaves self.old) (leaves self.new) }
+        ensures in_time { last self.old ≤ clock.old → last self.new ≤ clock.new }
 
         ensures fault { (area : Bool) → result ≡ Answer.Fault area → Rose (faults self.old) (faults self.new) }
         ensures count { faults self.old ≤ faults self.new }
@@ -56,6 +59,7 @@ pub trait Node {
         ensures trail { trail self.new ≡ trail self.old }
         ensures explains { (origin : State) (asked : List Asked) → explains self.old origin asked → explains self.new origin asked }
         ensures leaves { (m : ℕ) (log area : List ℕ) → leaves self.new m log area → leaves self.old m log area }
+        ensures last { last self.new ≡ last self.old }
         ensures count { faults self.old ≤ faults self.new };
 
     /// What explains a node is a run, of its name alone.

@@ -11,9 +11,13 @@ pub trait Nodes {
     /// What each node, by its number, was asked and answered.
     ghost lists: { Self → ℕ → List Asked };
 
+    /// What is so of each node by itself from one call to the next, whoever makes it: a caller hands it on.
+    ghost goes: { Self → Self → Type 0 } = { λ _ _. Unit {0} };
+
     /// Asks a node.
     fn ask(&mut self, node: NodeName, request: Request) -> Answer
         requires { IsRequest request }
         ensures well_formed { IsAnswer result }
-        ensures one_more { OneMore (lists self.old) (lists self.new) node.0 request result };
+        ensures one_more { OneMore (lists self.old) (lists self.new) node.0 request result }
+        ensures goes { goes self.old self.new };
 }

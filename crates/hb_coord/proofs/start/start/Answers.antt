@@ -39,7 +39,7 @@ returns-in-Ok-read_all-clause-starts g c = λ told time.
     let own : Each IsCoordinators (items_of c.in-Ok-start.log.items.items) = subst (λ (l : List Placed). Each IsCoordinators (items_of l)) c.items.ensures c.in-Ok-read_all.ensures.own in
     starts_with g.D.Disk.content g.D.Disk.left g.D.Disk.last c.args.disk _ t.0 c.in-Ok-start.log.items.items c.start.new.clock
     (at_some (g.D.Disk.content c.restart.new.self) t.0 _ t.1 c.in-Ok.ensures.reads) (e.items t.0 t.1) (e.settled t.0 t.1 later (inl refl)) (e.in_time later) own
-    (λ within. c.come_up.ensures (items_of c.in-Ok-start.log.items.items) knows within)
+    (λ within. c.come_up.ensures.reflects (items_of c.in-Ok-start.log.items.items) knows within)
 
 pub returns-in-Ok-read_all-clause-stop : goal.returns-in-Ok-read_all-clause-stop
 returns-in-Ok-read_all-clause-stop g c = λ told time.

@@ -51,7 +51,7 @@ returns-clause-turns g c = λ k up.
     let is : c.in-Some.number ≡ next_number k c.args.votes.now = c.in-Some.ensures.is k up.reflects.knows in
     let room : HasRoomFor k (decision_item c.args.tx.0 c.in-Some.number (nodes_of c.args.votes.now)) = omega (arith, c.in-Ok.ensures.room, c.end.ensures, knows_end g.D.Disk.content g.D.Disk.left g.D.Disk.last k c.args.self.now c.args.clock.now up) in
     let knows = c.in-Ok-decide.ensures.ok k.log (nodes_of c.args.votes.now) up.reflects.knows in
-    let reflects = reflects_log k (k.log ++ decision_item c.args.tx.0 c.in-Some.number (nodes_of c.args.votes.now) ∷ []) c.args.self.now.ledger (record { recorded = c.decide.new.self; next = c.args.self.now.ledger.next; active = c.args.self.now.ledger.active }) up.reflects knows refl refl in
     decided_turn g.D.Disk.content g.D.Disk.left g.D.Disk.last k c.args.self.now c.args.clock.now up c.args.tx (record { 0 = c.in-Some.number }) c.args.votes.now _ c.append.new.clock active is c.in-Some.ensures.within.1 room
     (c.in_ok-append.ensures.done k.log (decision_item c.args.tx.0 c.in-Some.number (nodes_of c.args.votes.now)) up.log c.decision.ensures.has_record c.in-Ok.ensures.spelled)
-    (c.end-2.ensures (happens k (decided c.args.tx.0 c.in-Some.number (nodes_of c.args.votes.now))) reflects)
+    (c.end-2.ensures.ended (happens k (decided c.args.tx.0 c.in-Some.number (nodes_of c.args.votes.now)))
+    (reflects_log k (k.log ++ decision_item c.args.tx.0 c.in-Some.number (nodes_of c.args.votes.now) ∷ []) c.args.self.now.ledger _ up.reflects knows refl refl))

@@ -1,6 +1,6 @@
 use Rattle.std.proofs.Common.{sym, ◌∙◌}
 use Rattle.hb_coord.proofs.Maps.{has_tx, tx_there}
-use Rattle.hb_coord.proofs.ledger.Ledger.is_active.Goals as goal
+use Rattle.hb_coord.proofs.kept.Ledger.is_active.Goals as goal
 
 pub returns : goal.returns
 returns c = λ k reflects. (

@@ -1,6 +1,0 @@
-use Rattle.std.proofs.Common.{refl}
-use Rattle.hb_coord.proofs.Reflecting.{reflects_ended}
-use Rattle.hb_coord.proofs.ledger.Ledger.end.Goals as goal
-
-pub returns : goal.returns
-returns c = λ k reflects. reflects_ended k c.args.self.now _ c.args.tx.0 reflects refl refl c.remove.ensures.updates
