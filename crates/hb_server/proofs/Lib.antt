@@ -1,0 +1,9 @@
+pub mod Runs
+pub mod Rest
+pub mod Stops
+pub mod Working
+pub mod Starting
+pub mod Waking
+pub mod Asking
+pub mod Entering
+pub mod FuseLaws
