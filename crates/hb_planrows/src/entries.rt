@@ -29,8 +29,8 @@ fn are_sited(entry: Entry) -> bool
     }
 }
 
-// The entry that a row tells. One that is none, or names an area without a back end, is passed over.
-fn entry_in(alloc: Global, row: &[u8]) -> Result<Option<Entry>, NoMemory>
+/// The entry that a row tells. One that is none, or names an area without a back end, is passed over.
+pub fn entry_in(alloc: Global, row: &[u8]) -> Result<Option<Entry>, NoMemory>
     ensures told { TellsEntry (Some row.now) → IfOk result (λ e. e ≡ entry_of (Some row.now)) }
     ensures sited { IfOk result (λ e. IfSome e AreSited) }
 {

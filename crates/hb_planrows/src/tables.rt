@@ -20,8 +20,8 @@ fn number_in(key: i64) -> Option<u16>
     }
 }
 
-// The table that a row tells, with its number.
-fn told(alloc: Global, row: &Stored) -> Result<Option<(u16, Table)>, NoMemory>
+/// The table that a row tells, with its number. A row that is none is passed over.
+pub fn table_in_row(alloc: Global, row: &Stored) -> Result<Option<(u16, Table)>, NoMemory>
     ensures told { TellsTable row.now → IfOk result (λ f. f ≡ found_in row.now) }
     ensures plain { IfOk result (λ f. IfSome f (λ t. IsPlain t.1)) }
 {
@@ -58,7 +58,7 @@ fn told_as(alloc: Global, row: &Stored, name: &[u8]) -> Result<Option<(u16, Tabl
     ensures told { TellsTable row.now → IfOk result (λ f. f ≡ named name.now (found_in row.now)) }
     ensures plain { IfOk result (λ f. IfSome f (λ t. IsPlain t.1)) }
 {
-    match told(alloc, row)? {
+    match table_in_row(alloc, row)? {
         Some((number, table)) => {
             if table.name.as_slice() == name {
                 Ok(Some((number, table)))

@@ -11,8 +11,8 @@ use crate::names::{is_unknown, pred_has_unknown};
 use hb_model::{Pred, Reply, Table, What};
 use hb_types::Column;
 
-// Whether each column of this name is of this kind.
-pub(crate) fn has_kind(table: &Table, kind: Kind, name: &[u8]) -> bool
+/// Whether each column of this name is of this kind.
+pub fn has_kind(table: &Table, kind: Kind, name: &[u8]) -> bool
     ensures { result ≡ kind_has table.now (kind_told kind) name.now }
 {
     table
@@ -45,7 +45,7 @@ fn what_is_typed(table: &Table, what: &What) -> bool
 }
 
 /// Whether a condition, if there is one, has a name that is no column.
-pub(crate) fn where_has_unknown(columns: &[Column], pred: &Option<Pred>) -> bool
+pub fn where_has_unknown(columns: &[Column], pred: &Option<Pred>) -> bool
     ensures { result ≡ list_any (unknown_in columns.now) (pred_names pred.now) }
 {
     match pred {
@@ -55,7 +55,7 @@ pub(crate) fn where_has_unknown(columns: &[Column], pred: &Option<Pred>) -> bool
 }
 
 /// Whether a condition, if there is one, compares only like with like.
-pub(crate) fn where_is_typed(table: &Table, pred: &Option<Pred>) -> bool
+pub fn where_is_typed(table: &Table, pred: &Option<Pred>) -> bool
     ensures { result ≡ typed_pred table.now pred.now }
 {
     match pred {

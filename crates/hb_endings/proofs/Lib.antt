@@ -1,0 +1,6 @@
+pub mod Ends
+pub mod Assigned
+pub mod FitRows
+pub mod Steps
+pub mod Plans
+pub mod Twins

@@ -1,0 +1,4 @@
+pub mod Early
+pub mod Bare
+pub mod PlanParts
+pub mod Steps

@@ -1,0 +1,4 @@
+pub mod Dropping
+pub mod Onwards
+pub mod Steps
+pub mod Along

@@ -1,0 +1,4 @@
+pub mod Onward
+pub mod Sweeps
+pub mod Rounds
+pub mod Laws

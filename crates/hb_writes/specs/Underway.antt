@@ -1,0 +1,17 @@
+-- Writes that are under way.
+use Rattle.std.specs.Prelude.{◌≤◌, List}
+use Rattle.hb_types.specs.declared.change.Change.{Change}
+use Rattle.hb_types.specs.Places.{node_of_area}
+use Rattle.hb_types.specs.Records.{IsChange}
+use Rattle.hb_model.specs.declared.reply.Reply.{Reply}
+use Rattle.hb_access.specs.Accesses.{Accessing}
+
+-- a change that can be written: it has bytes, and its area is at a node
+abbrev pub IsWrite : Change → Type 0
+IsWrite c = IsChange c × (node_of_area c.place.space.area ≤ 10)
+
+-- the write that is under way, those that are left, and the reply
+pub record Underway : Type 0 where
+  pub access : Accessing
+  pub left : List Change
+  pub reply : Reply

@@ -1,0 +1,10 @@
+//! The writes of a statement, one after another, and its reply behind them.
+#![tactic(auto)]
+
+mod counting;
+mod writing;
+
+pub use writing::{Begun, Taken, Writing, node_of};
+
+#[cfg(test)]
+mod tests;
