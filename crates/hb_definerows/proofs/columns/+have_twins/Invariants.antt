@@ -1,0 +1,5 @@
+use Rattle.std.proofs.Common.{length}
+use Rattle.hb_definerows.proofs.columns.+have_twins.Given as goal
+
+abbrev pub decreases-have_twins : goal.decreases-have_twins
+decreases-have_twins l = length l.columns.now

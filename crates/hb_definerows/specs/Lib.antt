@@ -1,0 +1,2 @@
+pub mod DefineRows
+pub mod Drafts

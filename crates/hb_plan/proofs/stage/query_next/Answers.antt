@@ -1,0 +1,5 @@
+use Rattle.hb_plan.proofs.Parts.{query_nexts}
+use Rattle.hb_plan.proofs.stage.query_next.Goals as goal
+
+pub returns-clause-next : goal.returns-clause-next
+returns-clause-next c = query_nexts c.args.plan.now c.next.new.self c.next.result c.next.ensures.next

@@ -1,0 +1,89 @@
+// The plan of a statement of any kind: what it asks next, and what it makes of the answer.
+ghost use Rattle.std.specs.Prelude.{◌≡◌, ◌≤◌, true, IfOk, IsTrue};
+ghost use Rattle.hb_types.specs.Calls.{IsAnswer};
+ghost use Rattle.hb_types.specs.Numbers.{IsNumber};
+ghost use Rattle.hb_model.specs.Plain.{is_plain};
+ghost use Rattle.hb_talk.specs.PlansDefine.{plan};
+ghost use Rattle.hb_access.specs.Accesses.{use_of, AsksSoundly};
+ghost use Rattle.hb_plan.specs.Planned.{is_planned, is_asking, is_waiting, now_talks, AsksOn, Hears, IsTold, NextIs, Uses};
+
+use crate::begins::stage_of;
+use crate::stage::{Stage, Taken};
+use hb_access::{Next, Usage};
+use hb_model::Statement;
+use hb_types::{Answer, NoMemory};
+use std::alloc::Global;
+use std::marker::Model;
+
+/// The plan of one statement.
+#[derive(Drop)]
+pub struct Plan {
+    stage: Stage,
+}
+
+impl Model for Plan {
+    ghost use Rattle.hb_plan.specs.Planned.{Planned, planned_at};
+    ghost use Rattle.std.specs.Prelude.{⊤};
+    ghost use Rattle.std.specs.Coded.{codes};
+    ghost use Rattle.hb_model.specs.contracts.condition.Pred as pred;
+    ghost use Rattle.hb_model.specs.contracts.expression.Expr as expr;
+
+    ghost Value = { Planned };
+
+    ghost coded = { Prim.hlevel (codes, pred.the_row.coded, expr.the_row.coded) };
+
+    ghost view = { λ p. planned_at p.stage };
+
+    ghost invariant = { λ p. ⊤ };
+}
+
+impl Plan {
+    /// The plan of a statement.
+    #[tactic(auto, unfolding(crate::specs::Planned::is_asking, crate::specs::Planned::now_talks))]
+    pub fn begin(
+        alloc: Global,
+        usage: Usage,
+        back_ends: u8,
+        statement: Statement,
+    ) -> Result<Plan, NoMemory>
+        requires planned { is_planned statement ≡ true }
+        requires plain { IsTrue (is_plain statement) }
+        requires within { (1 ≤ back_ends) × (back_ends ≤ 8) }
+        ensures usage { IfOk result (λ p. p.usage ≡ usage) }
+        ensures asking { IfOk result (λ p. is_asking p ≡ true) }
+        ensures talk { IfOk result (λ p. now_talks p ≡ plan back_ends statement (use_of usage)) }
+    {
+        let stage = stage_of(alloc, usage, back_ends, statement);
+        Ok(Plan { stage })
+    }
+
+    /// What the transaction has used.
+    pub fn usage(&self) -> Usage
+        ensures { result ≡ self.now.usage }
+    {
+        self.stage.usage()
+    }
+
+    /// What is asked next; it is the caller's to ask it.
+    pub fn next(&mut self) -> Next
+        requires { is_asking self.old ≡ true }
+        ensures next { NextIs self.old self.new result }
+        ensures tx { self.new.usage.tx.0 ≡ self.old.usage.tx.0 }
+        ensures used { Uses self.old.usage self.new.usage result }
+        ensures sound { IsNumber self.old.usage.tx.0 → AsksSoundly result }
+    {
+        self.stage.next()
+    }
+
+    /// Takes the answer to what was asked.
+    pub fn take(&mut self, answer: Answer) -> Taken
+        requires waiting { is_waiting self.old ≡ true }
+        requires answer { IsAnswer answer }
+        ensures hears { IsTold self.old answer → Hears self.old self.new answer result }
+        ensures asking { AsksOn self.new result }
+        ensures tx { self.new.usage.tx.0 ≡ self.old.usage.tx.0 }
+        ensures used { self.new.usage.used ≡ self.old.usage.used }
+    {
+        self.stage.take(answer)
+    }
+}

@@ -1,0 +1,4 @@
+pub mod Asking
+pub mod Written
+pub mod Adding
+pub mod Standing
