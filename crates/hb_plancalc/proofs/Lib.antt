@@ -1,0 +1,4 @@
+pub mod Comes
+pub mod Steps
+pub mod Counts
+pub mod Plain

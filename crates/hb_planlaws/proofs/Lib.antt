@@ -1,0 +1,9 @@
+pub mod Pigeons
+pub mod Named
+pub mod Scans
+pub mod Told
+pub mod KeyRows
+pub mod Walks
+pub mod Ends
+pub mod LockPlan
+pub mod SelectPlan
