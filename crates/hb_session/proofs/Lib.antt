@@ -1,0 +1,5 @@
+pub mod Ends
+pub mod Branches
+pub mod Plans
+pub mod Begins
+pub mod Following

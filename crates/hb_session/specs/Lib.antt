@@ -1,0 +1,3 @@
+pub mod Sitting
+pub mod Steps
+pub mod Runs
