@@ -1,0 +1,8 @@
+//! The nodes of a system as one caller reaches them, one call after another on one clock.
+#![tactic(auto)]
+
+mod reach;
+#[cfg(test)]
+mod tests;
+
+pub use reach::{MANAGER, Reach};

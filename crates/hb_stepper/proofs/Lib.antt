@@ -1,0 +1,4 @@
+mod Refusals
+mod Seats
+mod Stepping
+mod Turns

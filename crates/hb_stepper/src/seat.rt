@@ -1,0 +1,100 @@
+// A session at its place.
+ghost use Rattle.std.specs.Prelude.{◌≡◌, true, Option, Some, None};
+ghost use Rattle.hb_node.specs.Lists.{Onward};
+ghost use Rattle.hb_session.specs.declared.session.Progress.{Progress as Step};
+ghost use Rattle.hb_stepper.specs.Shown.{listed};
+
+use hb_model::{Line, Reply, Work};
+use hb_node::Nodes;
+use hb_session::{Progress, Session};
+
+/// A session, with what was given to it and isn't answered yet.
+#[derive(Drop)]
+pub struct Seat {
+    pub session: Session,
+    pub work: Option<Work>,
+    /// It moves by STEP alone.
+    pub held: bool,
+}
+
+impl Seat {
+    ghost use Rattle.std.specs.Prelude.{◌≡◌, true, ◌∷◌};
+    ghost use Rattle.hb_session.specs.Sitting.{is_busy};
+    ghost use Rattle.hb_stepper.specs.Steps.{SeatSteps, lines_of, unanswered, line_of};
+    ghost use Rattle.hb_stepper.specs.Running.{busy as is_in_progress, waits as is_waiting, going as can_go_on, asked as is_asked, open_now as has_open};
+
+    /// The session asks one request; the line that it shows.
+    pub(crate) fn step<N: Nodes>(&mut self, nodes: &mut N, place: usize) -> Option<Line>
+        requires { is_busy self.old.session.stage ≡ true }
+        ensures steps { (shows : Step) × SeatSteps self.old self.new (N.lists nodes.old) (N.lists nodes.new) shows × (listed result ≡ lines_of place self.old.work shows) }
+        ensures goes { Onward N.goes nodes.old nodes.new }
+    {
+        let shows = self.session.step(nodes);
+        self.answered(place, shows)
+    }
+
+    fn answered(&mut self, place: usize, shows: Progress) -> Option<Line>
+        ensures line { listed result ≡ lines_of place self.old.work shows }
+        ensures work { self.new.work ≡ unanswered self.old.work shows }
+        ensures session { self.new.session ≡ self.old.session }
+        ensures held { self.new.held ≡ self.old.held }
+    {
+        match shows {
+            Progress::More => None,
+            Progress::Waits(edges) => Some(Line {
+                session: Some(place as u64),
+                work: None,
+                reply: Reply::Waits(edges),
+            }),
+            Progress::Shown(reply) => Some(self.line(place, reply)),
+            Progress::Ended(reply) => Some(self.line(place, reply)),
+        }
+    }
+
+    fn line(&mut self, place: usize, reply: Reply) -> Line
+        ensures line { result ≡ line_of place self.old.work reply }
+        ensures work { self.new.work ≡ None }
+        ensures session { self.new.session ≡ self.old.session }
+        ensures held { self.new.held ≡ self.old.held }
+    {
+        Line {
+            session: Some(place as u64),
+            work: self.work.take(),
+            reply,
+        }
+    }
+
+    /// Whether a statement is in progress.
+    pub(crate) fn busy(&self) -> bool
+        ensures { result ≡ is_in_progress self.now }
+    {
+        self.session.busy()
+    }
+
+    pub(crate) fn waits(&self) -> bool
+        ensures { result ≡ is_waiting self.now }
+    {
+        self.session.waiting()
+    }
+
+    /// Whether its statement can go on.
+    pub(crate) fn going(&self) -> bool
+        ensures { result ≡ can_go_on self.now }
+    {
+        self.busy() && !self.waits()
+    }
+
+    /// Whether it waits, and is asked after each line.
+    pub(crate) fn asked(&self) -> bool
+        ensures { result ≡ is_asked self.now }
+    {
+        self.busy() && self.waits() && !self.held
+    }
+
+    /// Whether it has a transaction or a statement.
+    pub(crate) fn is_open(&self) -> bool
+        ensures { result ≡ has_open self.now }
+    {
+        self.busy() || self.session.in_transaction()
+    }
+}

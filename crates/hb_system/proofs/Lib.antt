@@ -1,0 +1,4 @@
+mod Begins
+mod Making
+mod Opened
+mod Zips

@@ -1,0 +1,11 @@
+use Rattle.std.proofs.Common.{◌≡◌, length}
+use Rattle.std.specs.List.{AllWithin}
+use Rattle.hb_system.specs.Disks.{AreKept, IsSettled}
+use Rattle.hb_system.proofs.disks.sync_all.Given as goal
+
+abbrev pub invariant-loop-i : goal.invariant-loop-i
+invariant-loop-i g l = record {
+  kept : AreKept g.D.Disk.content g.D.Disk.last g.D.Disk.faults l.fn.clock l.clock l.fn.disks l.disks;
+  settled : AllWithin (IsSettled g.D.Disk.content g.D.Disk.left g.D.Disk.last) l.disks 0 l.i;
+  long : length l.disks ≡ length l.fn.disks;
+}

@@ -1,0 +1,5 @@
+pub mod Disks
+pub mod Making
+pub mod Opening
+pub mod Starting
+pub mod Variants
