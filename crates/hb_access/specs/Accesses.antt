@@ -8,6 +8,7 @@ use Rattle.hb_types.specs.Calls.{IsRequest}
 use Rattle.hb_types.specs.Records.{IsChange}
 use Rattle.hb_types.specs.declared.places.Path.{Path}
 use Rattle.hb_types.specs.declared.places.Path.TheVariants as path
+use Rattle.hb_types.specs.declared.request.Request.TheVariants as request
 use Rattle.hb_model.specs.Needs.{most_locks}
 use Rattle.hb_model.specs.NodeSets.{has_node, with_node}
 use Rattle.hb_model.specs.declared.reply.Reply.{Reply}
@@ -137,6 +138,11 @@ GateIs node old new gate.Full = (has_node old.used node ≡ true) × (nat_le mos
 abbrev pub NextIs : Accessing → Accessing → Next → Type 0
 NextIs old new (next.Ask node q) = (is_waiting new.stage ≡ true) × (now_talks old ≡ asks node.0 q (now_hears new))
 NextIs old new (next.Refused r) = now_talks old ≡ says (Err r, use_of new.usage)
+
+-- the nodes that a transaction uses once this is asked: an Enlist adds its node, and nothing else does
+unfoldable pub used_after : ℕ → Next → ℕ
+used_after used (next.Ask node (request.Enlist tx)) = with_node used node.0
+used_after used _ = used
 
 -- what is asked is well formed
 abbrev pub AsksSoundly : Next → Type 0

@@ -5,7 +5,7 @@ ghost use Rattle.hb_types.specs.declared.change.Change.{Change as Written};
 ghost use Rattle.hb_types.specs.Numbers.{IsNumber};
 ghost use Rattle.hb_types.specs.Records.{IsChange};
 ghost use Rattle.hb_talk.specs.Talk.{the_rows};
-ghost use Rattle.hb_access.specs.Accesses.{is_asking, is_waiting, now_talks, use_of, locked, written, found_under, as_rows, NextIs, Hears, Brings, AsksSoundly};
+ghost use Rattle.hb_access.specs.Accesses.{is_asking, is_waiting, now_talks, use_of, locked, written, found_under, as_rows, NextIs, Hears, Brings, AsksSoundly, used_after};
 ghost use Rattle.hb_access.specs.declared.access.Stage.TheVariants as stage;
 
 use crate::goal::{Goal, Got};
@@ -103,6 +103,7 @@ impl Access {
         requires { is_asking self.old.stage ≡ true }
         ensures next { NextIs self.old self.new result }
         ensures tx { self.new.usage.tx.0 ≡ self.old.usage.tx.0 }
+        ensures used { self.new.usage.used.0 ≡ used_after self.old.usage.used.0 result }
         ensures sound { IsNumber self.old.usage.tx.0 → AsksSoundly result }
     {
         match self.stage {
@@ -113,11 +114,13 @@ impl Access {
         }
     }
 
+    #[tactic(auto, unfolding(crate::specs::Accesses::used_after))]
     fn ask_lock(&mut self, goal: Goal) -> Next
         requires stage { self.old.stage ≡ stage.Lock goal }
         requires within { goal.node.0 ≤ 10 }
         ensures next { NextIs self.old self.new result }
         ensures tx { self.new.usage.tx.0 ≡ self.old.usage.tx.0 }
+        ensures used { self.new.usage.used.0 ≡ used_after self.old.usage.used.0 result }
         ensures sound { IsNumber self.old.usage.tx.0 → AsksSoundly result }
     {
         let tx = self.usage.tx;
@@ -141,11 +144,13 @@ impl Access {
         }
     }
 
+    #[tactic(auto, unfolding(crate::specs::Accesses::used_after))]
     fn ask_fetch(&mut self, goal: Goal) -> Next
         requires stage { self.old.stage ≡ stage.Fetch goal }
         requires within { goal.node.0 ≤ 10 }
         ensures next { NextIs self.old self.new result }
         ensures tx { self.new.usage.tx.0 ≡ self.old.usage.tx.0 }
+        ensures used { self.new.usage.used.0 ≡ used_after self.old.usage.used.0 result }
         ensures sound { IsNumber self.old.usage.tx.0 → AsksSoundly result }
     {
         let tx = self.usage.tx;
@@ -158,11 +163,13 @@ impl Access {
         Next::Ask(goal.node, request)
     }
 
+    #[tactic(auto, unfolding(crate::specs::Accesses::used_after))]
     fn ask_write(&mut self, node: NodeName) -> Next
         requires stage { (c : Written) × (self.old.stage ≡ stage.Write node c) × IsChange c }
         requires within { node.0 ≤ 10 }
         ensures next { NextIs self.old self.new result }
         ensures tx { self.new.usage.tx.0 ≡ self.old.usage.tx.0 }
+        ensures used { self.new.usage.used.0 ≡ used_after self.old.usage.used.0 result }
         ensures sound { IsNumber self.old.usage.tx.0 → AsksSoundly result }
     {
         let tx = self.usage.tx;
@@ -186,6 +193,7 @@ impl Access {
         ensures hears { Hears self.old self.new answer result }
         ensures brings { Brings answer result }
         ensures tx { self.new.usage.tx.0 ≡ self.old.usage.tx.0 }
+        ensures used { self.new.usage.used.0 ≡ self.old.usage.used.0 }
     {
         match self.stage {
             Stage::Enlisting(goal) => self.take_enlist(goal, answer),
@@ -203,6 +211,7 @@ impl Access {
         ensures hears { Hears self.old self.new answer result }
         ensures brings { Brings answer result }
         ensures tx { self.new.usage.tx.0 ≡ self.old.usage.tx.0 }
+        ensures used { self.new.usage.used.0 ≡ self.old.usage.used.0 }
     {
         match answer {
             Answer::Done => {
@@ -219,6 +228,7 @@ impl Access {
         ensures hears { Hears self.old self.new answer result }
         ensures brings { Brings answer result }
         ensures tx { self.new.usage.tx.0 ≡ self.old.usage.tx.0 }
+        ensures used { self.new.usage.used.0 ≡ self.old.usage.used.0 }
     {
         match answer {
             Answer::Done => {
@@ -238,6 +248,7 @@ impl Access {
         ensures hears { Hears self.old self.new answer result }
         ensures brings { Brings answer result }
         ensures tx { self.new.usage.tx.0 ≡ self.old.usage.tx.0 }
+        ensures used { self.new.usage.used.0 ≡ self.old.usage.used.0 }
     {
         match goal.path {
             Path::Key(_) => match answer {
@@ -254,6 +265,7 @@ impl Access {
         ensures hears { Hears self.old self.new answer result }
         ensures brings { Brings answer result }
         ensures tx { self.new.usage.tx.0 ≡ self.old.usage.tx.0 }
+        ensures used { self.new.usage.used.0 ≡ self.old.usage.used.0 }
     {
         match answer {
             Answer::Rows(rows) => Taken::Came(Got::Rows(rows)),
@@ -267,6 +279,7 @@ impl Access {
         ensures hears { Hears self.old self.new answer result }
         ensures brings { Brings answer result }
         ensures tx { self.new.usage.tx.0 ≡ self.old.usage.tx.0 }
+        ensures used { self.new.usage.used.0 ≡ self.old.usage.used.0 }
     {
         match answer {
             Answer::Done => {
@@ -285,6 +298,7 @@ impl Access {
         ensures hears { Hears self.old self.new answer result }
         ensures brings { Brings answer result }
         ensures tx { self.new.usage.tx.0 ≡ self.old.usage.tx.0 }
+        ensures used { self.new.usage.used.0 ≡ self.old.usage.used.0 }
     {
         match answer {
             Answer::Done => Taken::Came(Got::Nothing),

@@ -1,5 +1,5 @@
 -- A statement's plan: what is still to be said at each of its moments, and what follows an answer.
-use Rattle.std.specs.Prelude.{◌≡◌, ◌≤◌, Bool, true, false, ◌⊎◌, Result, Ok, Err, ⊤}
+use Rattle.std.specs.Prelude.{◌≡◌, ◌≤◌, ℕ, Bool, true, false, ◌⊎◌, Result, Ok, Err, ⊤}
 use Rattle.hb_types.specs.declared.answer.Answer.{Answer}
 use Rattle.hb_types.specs.declared.request.Request.TheVariants as request
 use Rattle.hb_model.specs.NodeSets.{with_node}
@@ -105,6 +105,15 @@ NextIs old new (next.Refused r) = (now_talks old ≡ says (Err r, use_of new.usa
 abbrev pub StageNext : Stage → Stage → Next → Type 0
 StageNext old new (next.Ask node q) = (waiting_at new ≡ true) × (talks_at old ≡ asks node.0 q (hears_at new))
 StageNext old new (next.Refused r) = IsRefused (talks_at old) r (use_of (usage_at new))
+
+-- ds or a back end
+abbrev pub IsServer : ℕ → Type 0
+IsServer node = (1 ≤ node) × (node ≤ 9)
+
+-- a branch that is made is made at ds or a back end
+abbrev pub IsAtServer : Next → Type 0
+IsAtServer (next.Ask node (request.Enlist tx)) = IsServer node.0
+IsAtServer _ = ⊤
 
 -- a transaction's nodes: one more exactly where an Enlist is asked, of ds or of a back end
 abbrev pub Uses : Usage → Usage → Next → Type 0

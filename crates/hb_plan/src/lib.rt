@@ -2,7 +2,7 @@
 #![tactic(auto)]
 
 mod begins;
-mod counting;
+mod branches;
 mod machine;
 mod stage;
 

@@ -1,7 +1,7 @@
 // Where a plan stands: what it asks next, and what it makes of the answer.
 ghost use Rattle.std.specs.Prelude.{◌≡◌, true};
 ghost use Rattle.hb_types.specs.Numbers.{IsNumber};
-ghost use Rattle.hb_access.specs.Accesses.{AsksSoundly};
+ghost use Rattle.hb_access.specs.Accesses.{AsksSoundly, used_after};
 ghost use Rattle.hb_planquery.specs.QueryPlans.{is_asking as query_asks, is_waiting as query_waits, uses as query_uses};
 ghost use Rattle.hb_plandefine.specs.Defines.{is_asking as define_asks, is_waiting as define_waits, usage_at as define_uses};
 ghost use Rattle.hb_plan.specs.Planned.{asking_at, of_define, of_query, usage_at, waiting_at, StageAsksOn, StageHears, StageNext, ToldAt, Uses};
@@ -9,7 +9,7 @@ ghost use Rattle.hb_plan.specs.declared.stage.Stage.TheVariants as stage;
 ghost use Rattle.hb_plan.specs.declared.stage.Taken.TheVariants as taken_as;
 ghost use Rattle.hb_model.specs.declared.reply.Reply.TheVariants as no_memory;
 
-use crate::counting::{counts, is_same};
+use crate::branches::is_at_server;
 use hb_access::{Next, Usage};
 use hb_model::Reply;
 use hb_plandefine::Defining;
@@ -60,6 +60,7 @@ fn query_next(plan: &mut QueryPlan) -> Next
     requires { query_asks plan.old ≡ true }
     ensures next { StageNext (stage.Query plan.old) (stage.Query plan.new) result }
     ensures tx { (query_uses plan.new).tx.0 ≡ (query_uses plan.old).tx.0 }
+    ensures used { (query_uses plan.new).used.0 ≡ used_after (query_uses plan.old).used.0 result }
     ensures sound { IsNumber (query_uses plan.old).tx.0 → AsksSoundly result }
 {
     plan.next()
@@ -70,6 +71,7 @@ fn define_next(plan: &mut Defining) -> Next
     requires { define_asks plan.old ≡ true }
     ensures next { StageNext (stage.Define plan.old) (stage.Define plan.new) result }
     ensures tx { (define_uses plan.new).tx.0 ≡ (define_uses plan.old).tx.0 }
+    ensures used { (define_uses plan.new).used.0 ≡ used_after (define_uses plan.old).used.0 result }
     ensures sound { IsNumber (define_uses plan.old).tx.0 → AsksSoundly result }
 {
     plan.next()
@@ -81,6 +83,7 @@ fn query_take(plan: &mut QueryPlan, answer: Answer) -> Taken
     ensures hears { ToldAt (stage.Query plan.old) answer → StageHears (stage.Query plan.old) (stage.Query plan.new) answer result }
     ensures asking { StageAsksOn (stage.Query plan.new) result }
     ensures tx { (query_uses plan.new).tx.0 ≡ (query_uses plan.old).tx.0 }
+    ensures used { (query_uses plan.new).used.0 ≡ (query_uses plan.old).used.0 }
 {
     of_a_query(plan.take(answer))
 }
@@ -91,16 +94,9 @@ fn define_take(plan: &mut Defining, answer: Answer) -> Taken
     ensures hears { ToldAt (stage.Define plan.old) answer → StageHears (stage.Define plan.old) (stage.Define plan.new) answer result }
     ensures asking { StageAsksOn (stage.Define plan.new) result }
     ensures tx { (define_uses plan.new).tx.0 ≡ (define_uses plan.old).tx.0 }
+    ensures used { (define_uses plan.new).used.0 ≡ (define_uses plan.old).used.0 }
 {
     of_a_define(plan.take(answer))
-}
-
-// An answer is let go: the plan has no memory.
-fn without_memory(taken: Taken) -> Taken
-    ensures { result ≡ taken_as.Refused no_memory.NoMemory }
-{
-    let _ = taken;
-    Taken::Refused(Reply::NoMemory)
 }
 
 impl Stage {
@@ -118,25 +114,13 @@ impl Stage {
         requires { asking_at self.old ≡ true }
         ensures next { StageNext self.old self.new result }
         ensures tx { (usage_at self.new).tx.0 ≡ (usage_at self.old).tx.0 }
+        ensures used { (usage_at self.new).used.0 ≡ used_after (usage_at self.old).used.0 result }
         ensures sound { IsNumber (usage_at self.old).tx.0 → AsksSoundly result }
     {
         match self {
             Stage::Query(plan) => query_next(plan),
             Stage::Define(plan) => define_next(plan),
             Stage::Ended(_) => Next::Refused(Reply::NoMemory),
-        }
-    }
-
-    fn hear(&mut self, answer: Answer) -> Taken
-        requires { waiting_at self.old ≡ true }
-        ensures hears { ToldAt self.old answer → StageHears self.old self.new answer result }
-        ensures asking { StageAsksOn self.new result }
-        ensures tx { (usage_at self.new).tx.0 ≡ (usage_at self.old).tx.0 }
-    {
-        match self {
-            Stage::Query(plan) => query_take(plan, answer),
-            Stage::Define(plan) => define_take(plan, answer),
-            Stage::Ended(_) => Taken::Refused(Reply::NoMemory),
         }
     }
 
@@ -147,7 +131,7 @@ impl Stage {
         *self = Stage::Ended(usage);
     }
 
-    /// What is asked next, if it counts what it uses.
+    /// What is asked next. It makes a branch at ds or a back end alone.
     pub(crate) fn next(&mut self) -> Next
         requires { asking_at self.old ≡ true }
         ensures next { StageNext self.old self.new result }
@@ -157,27 +141,25 @@ impl Stage {
     {
         let usage = self.usage();
         let next = self.ask();
-        if counts(usage, self.usage(), &next) {
+        if is_at_server(&next) {
             return next;
         }
         self.end(usage);
         Next::Refused(Reply::NoMemory)
     }
 
-    /// Takes the answer, if nothing more is used.
+    /// Takes the answer to what was asked.
     pub(crate) fn take(&mut self, answer: Answer) -> Taken
         requires { waiting_at self.old ≡ true }
         ensures hears { ToldAt self.old answer → StageHears self.old self.new answer result }
         ensures asking { StageAsksOn self.new result }
         ensures tx { (usage_at self.new).tx.0 ≡ (usage_at self.old).tx.0 }
-        ensures used { (usage_at self.new).used ≡ (usage_at self.old).used }
+        ensures used { (usage_at self.new).used.0 ≡ (usage_at self.old).used.0 }
     {
-        let usage = self.usage();
-        let taken = self.hear(answer);
-        if is_same(usage, self.usage()) {
-            return taken;
+        match self {
+            Stage::Query(plan) => query_take(plan, answer),
+            Stage::Define(plan) => define_take(plan, answer),
+            Stage::Ended(_) => Taken::Refused(Reply::NoMemory),
         }
-        self.end(usage);
-        without_memory(taken)
     }
 }

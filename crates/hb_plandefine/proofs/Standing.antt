@@ -1,5 +1,5 @@
 -- Where a statement stands behind a step of what is under way.
-use Rattle.std.proofs.Common.{◌≡◌, ℕ, Ok, Err, inl, ap, sym, ◌∙◌, subst}
+use Rattle.std.proofs.Common.{◌≡◌, Ok, Err, inl, ap, sym, ◌∙◌, subst}
 use Rattle.hb_types.specs.declared.answer.Answer.{Answer}
 use Rattle.hb_model.specs.declared.reply.Reply.{Reply}
 use Rattle.hb_talk.specs.Talk.{Talk, says}
@@ -21,7 +21,7 @@ use Rattle.hb_plandefine.specs.declared.stage.Stage.TheVariants as stage
 use Rattle.hb_plandefine.specs.declared.stage.Went.{Went}
 use Rattle.hb_plandefine.specs.declared.stage.Went.TheVariants as went
 use Rattle.hb_plandefine.specs.declared.stage.Then.{Then}
-use Rattle.hb_plandefine.specs.Defines.{AsksMore, Goes, Hears, IsReady, NextIs, Tells, TellsGot, WentTo, follows, is_asking, now_hears, now_talks, usage_at}
+use Rattle.hb_plandefine.specs.Defines.{Goes, Hears, NextIs, Tells, TellsGot, WentTo, follows, now_hears, now_talks}
 use Rattle.hb_plandefine.proofs.Asking.{follow}
 
 pub next_asked : (old new : Accessing) (t : Then) (n : Next) → access.NextIs old new n → NextIs (stage.Asking old t) (stage.Asking new t) n
@@ -58,13 +58,3 @@ went_hears old new x (went.Replied r u) t goes to =
     subst (λ (y : Taken). Hears old new x y) (sym to.1) (subst (λ (s : Stage). Hears old s x (taken.Replied r)) (sym to.0) goes)
 went_hears old new x (went.Refused r u) t goes to =
     subst (λ (y : Taken). Hears old new x y) (sym to.1) (subst (λ (s : Stage). Hears old s x (taken.Refused r)) (sym to.0) goes)
-
-pub went_more : (tx : ℕ) (new : Stage) (w : Went) (t : Taken) → IsReady tx w → WentTo w new t → AsksMore new t
-went_more tx new (went.On s) t ready to = subst (λ (y : Taken). AsksMore new y) (sym to.1) (ap is_asking to.0 ∙ ready.0)
-went_more tx new (went.Replied r u) t ready to = subst (λ (y : Taken). AsksMore new y) (sym to.1) tt
-went_more tx new (went.Refused r u) t ready to = subst (λ (y : Taken). AsksMore new y) (sym to.1) tt
-
-pub went_tx : (tx : ℕ) (new : Stage) (w : Went) (t : Taken) → IsReady tx w → WentTo w new t → (usage_at new).tx.0 ≡ tx
-went_tx tx new (went.On s) t ready to = ap (λ (y : Stage). (usage_at y).tx.0) to.0 ∙ ready.1
-went_tx tx new (went.Replied r u) t ready to = ap (λ (y : Stage). (usage_at y).tx.0) to.0 ∙ ready
-went_tx tx new (went.Refused r u) t ready to = ap (λ (y : Stage). (usage_at y).tx.0) to.0 ∙ ready

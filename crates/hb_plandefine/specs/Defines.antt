@@ -225,11 +225,11 @@ Goes talk (went.On s) = talk ≡ now_talks s
 Goes talk (went.Replied r u) = talk ≡ says (Ok r, use_of u)
 Goes talk (went.Refused r u) = IsRefused talk r (use_of u)
 
--- what holds whatever the rows tell: something is asked, for the same transaction
-abbrev pub IsReady : ℕ → Went → Type 0
-IsReady tx (went.On s) = (is_asking s ≡ true) × ((usage_at s).tx.0 ≡ tx) × StageIsWithin s
-IsReady tx (went.Replied r u) = u.tx.0 ≡ tx
-IsReady tx (went.Refused r u) = u.tx.0 ≡ tx
+-- what holds whatever the rows tell: something is asked, for the same transaction, which uses the same nodes
+abbrev pub IsReady : Usage → Went → Type 0
+IsReady u (went.On s) = (is_asking s ≡ true) × ((usage_at s).tx.0 ≡ u.tx.0) × StageIsWithin s × ((usage_at s).used.0 ≡ u.used.0)
+IsReady u (went.Replied r v) = (v.tx.0 ≡ u.tx.0) × (v.used.0 ≡ u.used.0)
+IsReady u (went.Refused r v) = (v.tx.0 ≡ u.tx.0) × (v.used.0 ≡ u.used.0)
 
 -- what is asked next is what is to be said, and its answer is awaited, or it is refused
 abbrev pub NextIs : Stage → Stage → Next → Type 0

@@ -47,7 +47,7 @@ fn early_refusal(members: &Vec<u16>, area: u16) -> Option<Reply>
 // Asks for the areas.
 fn ask_areas(usage: Usage, number: u16, area: Text) -> Went
     ensures goes { Goes (areas_asked number area (use_of usage)) result }
-    ensures ready { IsReady usage.tx.0 result }
+    ensures ready { IsReady usage result }
 {
     let access = Access::lock(usage, rows_of(1, Mode::S));
     Went::On(Stage::Asking(access, Then::AreaOf(number, area)))
@@ -62,7 +62,7 @@ pub(crate) fn names_came(
     rows: &[Stored],
 ) -> Result<Went, NoMemory>
     ensures goes { TellTables rows.now → IfOk result (Goes (table_found table area rows.now (use_of usage))) }
-    ensures ready { IfOk result (IsReady usage.tx.0) }
+    ensures ready { IfOk result (IsReady usage) }
 {
     match table_named(alloc, rows, &table)? {
         Some((number, _)) => Ok(ask_areas(usage, number, area)),
@@ -79,7 +79,7 @@ pub(crate) fn area_came(
     rows: &[Stored],
 ) -> Result<Went, NoMemory>
     ensures goes { TellAreas rows.now → IfOk result (Goes (area_found (numbered number) area rows.now (use_of usage))) }
-    ensures ready { IfOk result (IsReady usage.tx.0) }
+    ensures ready { IfOk result (IsReady usage) }
 {
     let areas = read_areas(alloc, rows)?;
     match area_named(&areas, &area) {
@@ -95,7 +95,7 @@ pub(crate) fn area_came(
 fn beside(usage: Usage, number: u16, area: u16, members: Vec<u16>) -> Went
     requires { IsSited area }
     ensures goes { Goes (member_beside number area members.items (use_of usage)) result }
-    ensures ready { IsReady usage.tx.0 result }
+    ensures ready { IsReady usage result }
 {
     match early_refusal(&members, area) {
         Some(reply) => Went::Refused(reply, usage),
@@ -116,7 +116,7 @@ pub(crate) fn members_came(
 ) -> Result<Went, NoMemory>
     requires { IsSited area }
     ensures goes { TellMembers rows.now → IfOk result (Goes (member_beside number area (filter_map member_of rows.now) (use_of usage))) }
-    ensures ready { IfOk result (IsReady usage.tx.0) }
+    ensures ready { IfOk result (IsReady usage) }
 {
     let members = read_members(alloc, rows)?;
     Ok(beside(usage, number, area, members))
@@ -135,7 +135,7 @@ fn spread(
     requires accepted { first_refusal (added_refusals members.now entries.old area) ≡ None }
     requires spreads { spreads members.now entries.old ≡ true }
     ensures goes { IfOk result (Goes (spread_over number area members.now entries.old (use_of usage))) }
-    ensures ready { IfOk result (IsReady usage.tx.0) }
+    ensures ready { IfOk result (IsReady usage) }
 {
     let changes = add_area_changes(alloc, number, members, entries, area)?;
     Ok(write_out(usage, changes, Reply::Added))
@@ -152,7 +152,7 @@ fn over(
 ) -> Result<Went, NoMemory>
     requires { IsSited area }
     ensures goes { (first_refusal (added_refusals members.now entries.old area) ≡ None → spreads members.now entries.old ≡ true) → IfOk result (Goes (spread_over number area members.now entries.old (use_of usage))) }
-    ensures ready { IfOk result (IsReady usage.tx.0) }
+    ensures ready { IfOk result (IsReady usage) }
 {
     match full_add_refusal(members, entries, area) {
         Some(reply) => Ok(Went::Refused(reply, usage)),
@@ -176,7 +176,7 @@ fn over_all(
 ) -> Result<Went, NoMemory>
     requires { IsSited area }
     ensures goes { (first_refusal (added_refusals members.now entries.items area) ≡ None → spreads members.now entries.items ≡ true) → IfOk result (Goes (spread_over number area members.now entries.items (use_of usage))) }
-    ensures ready { IfOk result (IsReady usage.tx.0) }
+    ensures ready { IfOk result (IsReady usage) }
 {
     let mut entries = entries;
     over(alloc, usage, number, area, members, entries.as_mut_slice())
@@ -193,7 +193,7 @@ pub(crate) fn entries_came(
 ) -> Result<Went, NoMemory>
     requires { IsSited area }
     ensures goes { CanSpread members.now area rows.now → IfOk result (Goes (spread_out number area members.now rows.now (use_of usage))) }
-    ensures ready { IfOk result (IsReady usage.tx.0) }
+    ensures ready { IfOk result (IsReady usage) }
 {
     let entries = read_entries(alloc, rows)?;
     over_all(alloc, usage, number, area, members, entries)

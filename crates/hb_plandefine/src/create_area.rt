@@ -31,7 +31,7 @@ fn write_area(
     requires few { length areas.now < 64 }
     requires named { length name.now ≤ 30 }
     ensures goes { let area = new_area (state_told [] areas.now) name.now back_end in IfOk result (Goes (out_of (put_row (at_place areas_space 0 area.number (area_row area)) ∷ []) reply.Created (use_of usage))) }
-    ensures ready { IfOk result (IsReady usage.tx.0) }
+    ensures ready { IfOk result (IsReady usage) }
 {
     let change = area_change(alloc, areas, name, back_end)?;
     let mut changes = Vec::new(alloc);
@@ -66,7 +66,7 @@ fn beside(
     requires back_ends { back_ends ≤ 8 }
     requires named { length name.now ≤ 30 }
     ensures goes { IfOk result (Goes (area_beside back_ends name.now node.now areas.now (use_of usage))) }
-    ensures ready { IfOk result (IsReady usage.tx.0) }
+    ensures ready { IfOk result (IsReady usage) }
 {
     match refusal_of(back_ends, areas, name, node) {
         Some(reply) => Ok(Went::Refused(reply, usage)),
@@ -89,7 +89,7 @@ pub(crate) fn area_rows_came(
     requires back_ends { back_ends ≤ 8 }
     requires named { length name ≤ 30 }
     ensures goes { TellAreas rows.now → IfOk result (Goes (area_created back_ends name node rows.now (use_of usage))) }
-    ensures ready { IfOk result (IsReady usage.tx.0) }
+    ensures ready { IfOk result (IsReady usage) }
 {
     let areas = read_areas(alloc, rows)?;
     beside(alloc, usage, areas.as_slice(), back_ends, &name, &node)

@@ -32,7 +32,7 @@ fn early_refusal(tables: &Vec<Found>, draft: &Draft) -> Option<Reply>
 fn beside(usage: Usage, tables: Vec<Found>, draft: Draft) -> Went
     requires { IsNamed draft }
     ensures goes { Goes (table_beside draft tables.items (use_of usage)) result }
-    ensures ready { IsReady usage.tx.0 result }
+    ensures ready { IsReady usage result }
 {
     match early_refusal(&tables, &draft) {
         Some(reply) => Went::Refused(reply, usage),
@@ -52,7 +52,7 @@ pub(crate) fn table_rows_came(
 ) -> Result<Went, NoMemory>
     requires { IsNamed draft }
     ensures goes { TellTables rows.now → IfOk result (Goes (table_checked draft rows.now (use_of usage))) }
-    ensures ready { IfOk result (IsReady usage.tx.0) }
+    ensures ready { IfOk result (IsReady usage) }
 {
     let tables = read_tables(alloc, rows)?;
     Ok(beside(usage, tables, draft))
@@ -69,7 +69,7 @@ fn lock_members(
     requires named { IsNamed draft }
     requires accepted { IsAccepted (state_told tables.now areas.now) draft }
     ensures goes { let spread = new_spread (state_told tables.now areas.now) draft.name draft.areas in IfOk result (Goes (members_locked spread.number (map put_row (new_rows (table_of_draft draft) spread)) (use_of usage))) }
-    ensures ready { IfOk result (IsReady usage.tx.0) }
+    ensures ready { IfOk result (IsReady usage) }
 {
     let number = new_number(tables, areas, &draft);
     let changes = table_changes(alloc, tables, areas, draft)?;
@@ -87,7 +87,7 @@ fn in_areas(
 ) -> Result<Went, NoMemory>
     requires { IsNamed draft }
     ensures goes { IfOk result (Goes (table_in_areas draft tables.now areas.now (use_of usage))) }
-    ensures ready { IfOk result (IsReady usage.tx.0) }
+    ensures ready { IfOk result (IsReady usage) }
 {
     match full_table_refusal(tables, areas, &draft) {
         Some(reply) => Ok(Went::Refused(reply, usage)),
@@ -104,7 +104,7 @@ fn in_read_areas(
 ) -> Result<Went, NoMemory>
     requires { IsNamed draft }
     ensures goes { IfOk result (Goes (table_in_areas draft tables.items areas.items (use_of usage))) }
-    ensures ready { IfOk result (IsReady usage.tx.0) }
+    ensures ready { IfOk result (IsReady usage) }
 {
     in_areas(alloc, usage, tables.as_slice(), areas.as_slice(), draft)
 }
@@ -119,7 +119,7 @@ pub(crate) fn table_areas_came(
 ) -> Result<Went, NoMemory>
     requires { IsNamed draft }
     ensures goes { TellAreas rows.now → IfOk result (Goes (table_created draft tables.items rows.now (use_of usage))) }
-    ensures ready { IfOk result (IsReady usage.tx.0) }
+    ensures ready { IfOk result (IsReady usage) }
 {
     let areas = read_areas(alloc, rows)?;
     in_read_areas(alloc, usage, tables, areas, draft)
@@ -129,7 +129,7 @@ pub(crate) fn table_areas_came(
 pub(crate) fn lock_entries(usage: Usage, number: u16, changes: Vec<Change>) -> Went
     requires { Each IsWrite changes.items }
     ensures goes { Goes (entries_locked number changes.items (use_of usage)) result }
-    ensures ready { IsReady usage.tx.0 result }
+    ensures ready { IsReady usage result }
 {
     let access = Access::lock(usage, group_of(4, number, false));
     Went::On(Stage::Asking(access, Then::WriteTable(changes)))

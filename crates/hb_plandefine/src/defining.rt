@@ -3,7 +3,7 @@ ghost use Rattle.std.specs.Prelude.{◌≡◌, ◌≤◌, true, length, IfOk};
 ghost use Rattle.hb_types.specs.Numbers.{IsNumber};
 ghost use Rattle.hb_talk.specs.Talk.{Talk};
 ghost use Rattle.hb_talk.specs.PlansDefine.{create_area_plan, create_table_plan, add_area_plan};
-ghost use Rattle.hb_access.specs.Accesses.{use_of, AsksSoundly, is_asking as access_asking, is_waiting as access_waiting};
+ghost use Rattle.hb_access.specs.Accesses.{use_of, used_after, AsksSoundly, is_asking as access_asking, is_waiting as access_waiting};
 ghost use Rattle.hb_definerows.specs.Drafts.{IsNamed};
 ghost use Rattle.hb_writes.specs.Writings.{Replied, is_asking as writes_ask, is_waiting as writes_wait};
 ghost use Rattle.hb_plandefine.specs.declared.stage.Stage.TheVariants as stage;
@@ -53,7 +53,7 @@ impl Model for Defining {
 // Where a step led, or that there was no memory.
 fn or_no_memory(usage: Usage, went: Result<Went, NoMemory>) -> Went
     ensures goes { (talk : Talk Replied) → IfOk went (Goes talk) → Goes talk result }
-    ensures ready { IfOk went (IsReady usage.tx.0) → IsReady usage.tx.0 result }
+    ensures ready { IfOk went (IsReady usage) → IsReady usage result }
 {
     match went {
         Ok(went) => went,
@@ -65,7 +65,7 @@ fn or_no_memory(usage: Usage, went: Result<Went, NoMemory>) -> Went
 fn with_rows(alloc: Global, usage: Usage, then: Then, rows: &[Stored]) -> Result<Went, NoMemory>
     requires { IsWithin then }
     ensures goes { TellsRows then rows.now → IfOk result (Goes (follows then (got.Rows rows.now) (use_of usage))) }
-    ensures ready { IfOk result (IsReady usage.tx.0) }
+    ensures ready { IfOk result (IsReady usage) }
 {
     match then {
         Then::NewArea(back_ends, name, node) => {
@@ -89,7 +89,7 @@ fn with_lock(usage: Usage, then: Then, got: Got) -> Went
     requires within { IsWithin then }
     requires no_rows { HasNoRows got }
     ensures goes { Goes (follows then got (use_of usage)) result }
-    ensures ready { IsReady usage.tx.0 result }
+    ensures ready { IsReady usage result }
 {
     match then {
         Then::LockEntries(number, changes) => lock_entries(usage, number, changes),
@@ -102,7 +102,7 @@ fn with_lock(usage: Usage, then: Then, got: Got) -> Went
 fn came(alloc: Global, usage: Usage, then: Then, got: Got) -> Went
     requires { IsWithin then }
     ensures goes { TellsGot then got → Goes (follows then got (use_of usage)) result }
-    ensures ready { IsReady usage.tx.0 result }
+    ensures ready { IsReady usage result }
 {
     match got {
         Got::Rows(rows) => or_no_memory(usage, with_rows(alloc, usage, then, rows.as_slice())),
@@ -115,7 +115,7 @@ fn asked(alloc: Global, access: Access, then: Then, answer: Answer) -> Went
     requires waiting { access_waiting access.stage ≡ true }
     requires within { IsWithin then }
     ensures goes { Tells (stage.Asking access then) answer → Goes (now_hears (stage.Asking access then) answer) result }
-    ensures ready { IsReady access.usage.tx.0 result }
+    ensures ready { IsReady access.usage result }
 {
     let mut access = access;
     match access.take(answer) {
@@ -129,7 +129,7 @@ fn asked(alloc: Global, access: Access, then: Then, answer: Answer) -> Went
 fn wrote(writing: Writing, answer: Answer) -> Went
     requires { writes_wait writing ≡ true }
     ensures goes { Goes (now_hears (stage.Writing writing) answer) result }
-    ensures ready { IsReady writing.access.usage.tx.0 result }
+    ensures ready { IsReady writing.access.usage result }
 {
     let mut writing = writing;
     match writing.take(answer) {
@@ -144,7 +144,7 @@ fn answered(alloc: Global, stage: Stage, answer: Answer) -> Went
     requires waiting { is_waiting stage ≡ true }
     requires within { StageIsWithin stage }
     ensures goes { Tells stage answer → Goes (now_hears stage answer) result }
-    ensures ready { IsReady (usage_at stage).tx.0 result }
+    ensures ready { IsReady (usage_at stage) result }
 {
     match stage {
         Stage::Asking(access, then) => asked(alloc, access, then, answer),
@@ -158,6 +158,7 @@ fn ask_next(access: &mut Access, then: &Then) -> Next
     requires { access_asking access.old.stage ≡ true }
     ensures next { NextIs (stage.Asking access.old then.now) (stage.Asking access.new then.now) result }
     ensures tx { access.new.usage.tx.0 ≡ access.old.usage.tx.0 }
+    ensures used { access.new.usage.used.0 ≡ used_after access.old.usage.used.0 result }
     ensures sound { IsNumber access.old.usage.tx.0 → AsksSoundly result }
 {
     access.next()
@@ -168,6 +169,7 @@ fn write_next(writing: &mut Writing) -> Next
     requires { writes_ask writing.old ≡ true }
     ensures next { NextIs (stage.Writing writing.old) (stage.Writing writing.new) result }
     ensures tx { writing.new.access.usage.tx.0 ≡ writing.old.access.usage.tx.0 }
+    ensures used { writing.new.access.usage.used.0 ≡ used_after writing.old.access.usage.used.0 result }
     ensures sound { IsNumber writing.old.access.usage.tx.0 → AsksSoundly result }
 {
     writing.next()
@@ -232,6 +234,7 @@ impl Defining {
         requires { is_asking self.old ≡ true }
         ensures next { NextIs self.old self.new result }
         ensures tx { (usage_at self.new).tx.0 ≡ (usage_at self.old).tx.0 }
+        ensures used { (usage_at self.new).used.0 ≡ used_after (usage_at self.old).used.0 result }
         ensures sound { IsNumber (usage_at self.old).tx.0 → AsksSoundly result }
     {
         match &mut self.stage {
@@ -243,7 +246,7 @@ impl Defining {
 
     // Stands where a step led.
     fn go(&mut self, went: Went) -> Taken
-        requires { IsReady (usage_at self.old).tx.0 went }
+        requires { IsReady (usage_at self.old) went }
         ensures went { WentTo went self.new result }
     {
         match went {
@@ -268,6 +271,7 @@ impl Defining {
         ensures hears { Tells self.old answer → Hears self.old self.new answer result }
         ensures more { AsksMore self.new result }
         ensures tx { (usage_at self.new).tx.0 ≡ (usage_at self.old).tx.0 }
+        ensures used { (usage_at self.new).used.0 ≡ (usage_at self.old).used.0 }
     {
         let ended = Stage::Ended(self.usage());
         let stage = std::mem::replace(&mut self.stage, ended);

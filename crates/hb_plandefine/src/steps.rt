@@ -48,7 +48,7 @@ pub(crate) fn group_of(table: u16, group: u16, reads: bool) -> Goal
 pub(crate) fn write_out(usage: Usage, changes: Vec<Change>, reply: Reply) -> Went
     requires { Each IsWrite changes.items }
     ensures goes { Goes (out_of changes.items reply (use_of usage)) result }
-    ensures ready { IsReady usage.tx.0 result }
+    ensures ready { IsReady usage result }
 {
     match Writing::begin(usage, changes, reply) {
         Begun::Writing(writing) => Went::On(Stage::Writing(writing)),

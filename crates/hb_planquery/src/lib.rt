@@ -8,3 +8,6 @@ mod query_plan;
 
 pub use query::Query;
 pub use query_plan::{QueryPlan, Taken};
+
+#[cfg(test)]
+mod tests;

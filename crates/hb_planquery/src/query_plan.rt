@@ -3,7 +3,7 @@ ghost use Rattle.std.specs.Prelude.{◌≡◌, true, ℕ, Some, IfOk, IfSome};
 ghost use Rattle.hb_types.specs.Lists.{Each};
 ghost use Rattle.hb_types.specs.Numbers.{IsNumber};
 ghost use Rattle.hb_model.specs.Told.{table_among};
-ghost use Rattle.hb_access.specs.Accesses.{AsksSoundly, use_of};
+ghost use Rattle.hb_access.specs.Accesses.{AsksSoundly, use_of, used_after};
 ghost use Rattle.hb_planrows.specs.PlanRows.{AreSited, IsPlain};
 ghost use Rattle.hb_writes.specs.Underway.{IsWrite};
 ghost use Rattle.hb_planquery.specs.Queries.{plan_of, rows_in, TellsTables};
@@ -144,6 +144,7 @@ impl QueryPlan {
         requires { is_asking self.old ≡ true }
         ensures next { NextIs self.old self.new result }
         ensures tx { (uses self.new).tx.0 ≡ (uses self.old).tx.0 }
+        ensures used { (uses self.new).used.0 ≡ used_after (uses self.old).used.0 result }
         ensures sound { IsNumber (uses self.old).tx.0 → AsksSoundly result }
     {
         match &mut self.stage {
@@ -160,6 +161,7 @@ impl QueryPlan {
         ensures hears { IsTold self.old answer → Hears self.old self.new answer result }
         ensures asking { AsksOn self.new result }
         ensures tx { (uses self.new).tx.0 ≡ (uses self.old).tx.0 }
+        ensures used { (uses self.new).used.0 ≡ (uses self.old).used.0 }
     {
         match &mut self.stage {
             Stage::Names(access) => match access.take(answer) {
@@ -183,6 +185,7 @@ impl QueryPlan {
         ensures finds { TellsTables got → Finds self.old self.new got result }
         ensures asking { AsksOn self.new result }
         ensures tx { (uses self.new).tx.0 ≡ (uses self.old).tx.0 }
+        ensures used { (uses self.new).used.0 ≡ (uses self.old).used.0 }
     {
         match found(self.alloc, got, self.name.as_slice()) {
             Ok(Some((number, table))) => self.read(number, table),
@@ -204,6 +207,7 @@ impl QueryPlan {
         ensures reads { Reads self.old self.new number table result }
         ensures asking { AsksOn self.new result }
         ensures tx { (uses self.new).tx.0 ≡ (uses self.old).tx.0 }
+        ensures used { (uses self.new).used.0 ≡ (uses self.old).used.0 }
     {
         let usage = self.usage();
         match aim_of(&self.query, &table) {
@@ -223,6 +227,7 @@ impl QueryPlan {
         ensures ends { Ends self.old self.new brought result }
         ensures asking { AsksOn self.new result }
         ensures tx { (uses self.new).tx.0 ≡ (uses self.old).tx.0 }
+        ensures used { (uses self.new).used.0 ≡ (uses self.old).used.0 }
     {
         let usage = self.usage();
         match table_in(std::mem::replace(&mut self.stage, Stage::Ended(usage))) {
@@ -242,6 +247,7 @@ impl QueryPlan {
         ensures ends { GoesWith (ending_talk (told ending) (now_uses self.old)) self.new result }
         ensures asking { AsksOn self.new result }
         ensures tx { (uses self.new).tx.0 ≡ (uses self.old).tx.0 }
+        ensures used { (uses self.new).used.0 ≡ (uses self.old).used.0 }
     {
         match ending {
             Ending::Refused(reply) => Taken::Refused(reply),
@@ -256,6 +262,7 @@ impl QueryPlan {
         ensures writes { GoesWith (ending_talk (changing changes.items reply) (now_uses self.old)) self.new result }
         ensures asking { AsksOn self.new result }
         ensures tx { (uses self.new).tx.0 ≡ (uses self.old).tx.0 }
+        ensures used { (uses self.new).used.0 ≡ (uses self.old).used.0 }
     {
         let usage = self.usage();
         match Writing::begin(usage, changes, reply) {

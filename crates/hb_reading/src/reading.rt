@@ -2,7 +2,7 @@
 ghost use Rattle.std.specs.Prelude.{◌≡◌, true, IfSome};
 ghost use Rattle.hb_types.specs.Calls.{IsAnswer};
 ghost use Rattle.hb_types.specs.Numbers.{IsNumber};
-ghost use Rattle.hb_access.specs.Accesses.{AsksSoundly, use_of};
+ghost use Rattle.hb_access.specs.Accesses.{AsksSoundly, use_of, used_after};
 ghost use Rattle.hb_reading.specs.Aims.{HasKey, reading};
 ghost use Rattle.hb_reading.specs.Routes.{IsRouted};
 ghost use Rattle.hb_reading.specs.Readings.{is_asking, is_waiting, uses, now_talks, NextIs, Hears, Enters, BringsRows, GoesWith, rows_along, IsAtFirst, HasRows, IsTold, IsSitedIn, AsksOn, as_taken};
@@ -106,6 +106,7 @@ impl Reading {
         requires { is_asking self.old ≡ true }
         ensures next { NextIs self.old self.new result }
         ensures tx { (uses self.new).tx.0 ≡ (uses self.old).tx.0 }
+        ensures used { (uses self.new).used.0 ≡ used_after (uses self.old).used.0 result }
         ensures rows { HasRows self.old → HasRows self.new }
         ensures sound { IsNumber (uses self.old).tx.0 → AsksSoundly result }
     {
@@ -121,6 +122,7 @@ impl Reading {
         ensures hears { IsTold self.old answer → Hears self.old self.new answer result }
         ensures asking { AsksOn self.new result }
         ensures tx { (uses self.new).tx.0 ≡ (uses self.old).tx.0 }
+        ensures used { (uses self.new).used.0 ≡ (uses self.old).used.0 }
         ensures rows { HasRows self.old → IsAnswer answer → BringsRows self.new result }
         ensures sited { IsSitedIn result }
     {
@@ -140,6 +142,7 @@ impl Reading {
         ensures enters { Enters self.old self.new got result }
         ensures asking { AsksOn self.new result }
         ensures tx { (uses self.new).tx.0 ≡ (uses self.old).tx.0 }
+        ensures used { (uses self.new).used.0 ≡ (uses self.old).used.0 }
         ensures rows { BringsRows self.new result }
         ensures sited { IsSitedIn result }
     {
@@ -155,6 +158,7 @@ impl Reading {
         ensures goes { GoesWith (rows_along self.old.table self.old.aim routed (use_of (uses self.old))) self.new result }
         ensures asking { AsksOn self.new result }
         ensures tx { (uses self.new).tx.0 ≡ (uses self.old).tx.0 }
+        ensures used { (uses self.new).used.0 ≡ (uses self.old).used.0 }
         ensures rows { BringsRows self.new result }
         ensures sited { IsSitedIn result }
     {

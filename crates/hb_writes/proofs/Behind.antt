@@ -20,7 +20,7 @@ use Rattle.hb_writes.specs.declared.writing.Begun.TheVariants as begun
 use Rattle.hb_writes.specs.declared.writing.Taken.{Taken}
 use Rattle.hb_writes.specs.declared.writing.Taken.TheVariants as taken
 use Rattle.hb_writes.specs.Underway.{Underway}
-use Rattle.hb_writes.specs.Writings.{Replied, behind, replying, StartsAt, Starts, Begins, NextIs, Goes}
+use Rattle.hb_writes.specs.Writings.{Replied, behind, replying, IsSameUse, StartsAt, Starts, Begins, NextIs, Goes}
 
 -- ---- writes, one in front
 
@@ -46,16 +46,19 @@ pub too_much : (changes : List Change) (r : Reply) (u : Use) → nat_lt most_byt
     → (writes changes >> pure r) u ≡ says (Err reply.TooMuch, u)
 too_much changes r u much = ap (by_room changes r u) much
 
-pub starts_from : (b : Begun) (talk its : Talk Replied) (u v : Usage) → talk ≡ its → v.tx ≡ u.tx → StartsAt its v b → StartsAt talk u b
-starts_from (begun.Writing w) talk its u v is tx at = (at.0, is ∙ at.1, at.2 ∙ tx)
-starts_from (begun.Replied r w) talk its u v is tx at = (is ∙ at.0, at.1 ∙ tx)
-starts_from (begun.Refused r w) talk its u v is tx at = (is ∙ at.0, at.1 ∙ tx)
+same_use : (u v w : Usage) → IsSameUse u v → IsSameUse v w → IsSameUse u w
+same_use u v w before after = (after.0 ∙ before.0, after.1 ∙ before.1)
+
+pub starts_from : (b : Begun) (talk its : Talk Replied) (u v : Usage) → talk ≡ its → IsSameUse u v → StartsAt its v b → StartsAt talk u b
+starts_from (begun.Writing w) talk its u v is same at = (at.0, is ∙ at.1, same_use u v w.access.usage same at.2)
+starts_from (begun.Replied r w) talk its u v is same at = (is ∙ at.0, same_use u v w same at.1)
+starts_from (begun.Refused r w) talk its u v is same at = (is ∙ at.0, same_use u v w same at.1)
 
 pub begins_counted : (u v : Usage) (changes : List Change) (r : Reply) (b : Begun) → nat_lt most_bytes (u.bytes + sizes changes) ≡ false
-    → use_of v ≡ record (use_of u) { bytes = u.bytes + sizes changes } → v.tx ≡ u.tx → Starts v changes r b → Begins u changes r b
-begins_counted u v changes r b room is tx starts =
+    → use_of v ≡ record (use_of u) { bytes = u.bytes + sizes changes } → IsSameUse u v → Starts v changes r b → Begins u changes r b
+begins_counted u v changes r b room is same starts =
     starts_from b ((writes changes >> pure r) (use_of u)) (replying changes r (use_of v)) u v
-    (with_room changes r (use_of u) room ∙ ap (replying changes r) (sym is)) tx starts
+    (with_room changes r (use_of u) room ∙ ap (replying changes r) (sym is)) same starts
 
 -- ---- steps
 

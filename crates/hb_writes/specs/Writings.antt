@@ -50,17 +50,21 @@ using w = use_of w.access.usage
 
 -- ---- steps
 
+-- the same transaction uses the same nodes
+abbrev pub IsSameUse : Usage → Usage → Type 0
+IsSameUse old new = (new.tx ≡ old.tx) × (new.used ≡ old.used)
+
 -- changes that are counted: there is room for them, or they are too much
 abbrev pub Counts : Usage → List Change → Option Usage → Type 0
 Counts old changes (Some new) =
-    (nat_lt most_bytes (old.bytes + sizes changes) ≡ false) × (use_of new ≡ record (use_of old) { bytes = old.bytes + sizes changes }) × (new.tx ≡ old.tx)
+    (nat_lt most_bytes (old.bytes + sizes changes) ≡ false) × (use_of new ≡ record (use_of old) { bytes = old.bytes + sizes changes }) × IsSameUse old new
 Counts old changes None = nat_lt most_bytes (old.bytes + sizes changes) ≡ true
 
 -- how a talk begins: it waits to be asked, or is at its end
 abbrev pub StartsAt : Talk Replied → Usage → Begun → Type 0
-StartsAt talk u (begun.Writing w) = (is_asking w ≡ true) × (talk ≡ now_talks w) × (w.access.usage.tx ≡ u.tx)
-StartsAt talk u (begun.Replied r v) = (talk ≡ says (Ok r, use_of v)) × (v.tx ≡ u.tx)
-StartsAt talk u (begun.Refused r v) = (talk ≡ says (Err r, use_of v)) × (v.tx ≡ u.tx)
+StartsAt talk u (begun.Writing w) = (is_asking w ≡ true) × (talk ≡ now_talks w) × IsSameUse u w.access.usage
+StartsAt talk u (begun.Replied r v) = (talk ≡ says (Ok r, use_of v)) × IsSameUse u v
+StartsAt talk u (begun.Refused r v) = (talk ≡ says (Err r, use_of v)) × IsSameUse u v
 
 -- what is said of writes that are counted
 abbrev pub Starts : Usage → List Change → Reply → Begun → Type 0

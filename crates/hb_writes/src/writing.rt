@@ -4,7 +4,7 @@ ghost use Rattle.std.specs.Vec.Iter.{into_iter_items};
 ghost use Rattle.hb_types.specs.Lists.{Each};
 ghost use Rattle.hb_types.specs.Numbers.{IsNumber};
 ghost use Rattle.hb_types.specs.Places.{node_of_area};
-ghost use Rattle.hb_access.specs.Accesses.{use_of, written, AsksSoundly, is_asking as access_asking, now_talks as access_talks};
+ghost use Rattle.hb_access.specs.Accesses.{use_of, written, used_after, AsksSoundly, is_asking as access_asking, now_talks as access_talks};
 ghost use Rattle.hb_writes.specs.Underway.{IsWrite};
 ghost use Rattle.hb_writes.specs.Writings.{is_asking, is_waiting, replying, using, Begins, Goes, Hears, NextIs, Starts};
 
@@ -119,6 +119,7 @@ impl Writing {
         requires { is_asking self.old ≡ true }
         ensures next { NextIs self.old self.new result }
         ensures tx { self.new.access.usage.tx.0 ≡ self.old.access.usage.tx.0 }
+        ensures used { self.new.access.usage.used.0 ≡ used_after self.old.access.usage.used.0 result }
         ensures sound { IsNumber self.old.access.usage.tx.0 → AsksSoundly result }
     {
         self.access.next()
@@ -129,6 +130,7 @@ impl Writing {
         requires { is_waiting self.old ≡ true }
         ensures hears { Hears self.old self.new answer result }
         ensures tx { self.new.access.usage.tx.0 ≡ self.old.access.usage.tx.0 }
+        ensures used { self.new.access.usage.used.0 ≡ self.old.access.usage.used.0 }
     {
         match self.access.take(answer) {
             hb_access::Taken::More => Taken::More,
@@ -141,6 +143,7 @@ impl Writing {
     fn go_on(&mut self) -> Taken
         ensures goes { Goes (replying self.old.left self.old.reply (using self.old)) self.new result }
         ensures tx { self.new.access.usage.tx.0 ≡ self.old.access.usage.tx.0 }
+        ensures used { self.new.access.usage.used.0 ≡ self.old.access.usage.used.0 }
     {
         match self.left.next() {
             Some(change) => {

@@ -28,4 +28,6 @@ returns-clause-goes c =
     (λ v. ap (λ (cs : List Change). (lock_group entries_space n >> (writes cs >> pure reply.Created)) v) (sym c.in_ok-changes.ensures.changes)) _ u _ c.group_of.ensures c.lock-access.ensures.talk
 
 pub returns-clause-ready : goal.returns-clause-ready
-returns-clause-ready c = (c.lock-access.ensures.asking, ap (λ (u : Usage). u.tx.0) c.lock-access.ensures.usage, each_write _ (c.in_ok-changes.ensures.sound tt))
+returns-clause-ready c =
+    let usage = c.lock-access.ensures.usage in
+    (c.lock-access.ensures.asking, ap (λ (u : Usage). u.tx.0) usage, each_write _ (c.in_ok-changes.ensures.sound tt), ap (λ (u : Usage). u.used.0) usage)

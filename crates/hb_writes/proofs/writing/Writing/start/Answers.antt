@@ -13,5 +13,5 @@ returns-in-Some c =
       c.write_of-access.ensures.asking,
       ap (λ cs. replying cs reply u) c.in-Some.ensures.items ∙ first_write c.in-Some.change rest reply u
           ∙ ap (behind (replying rest reply)) (sym c.write_of-access.ensures.talk),
-      ap (λ v. v.tx) c.write_of-access.ensures.usage,
+      (ap (λ v. v.tx) c.write_of-access.ensures.usage, ap (λ v. v.used) c.write_of-access.ensures.usage),
     )
