@@ -95,6 +95,11 @@ abbrev pub is_waiting : Stage → Bool
 is_waiting (stage.Asks a) = waits_for_lock a.pending
 is_waiting _ = false
 
+-- its transaction ends
+abbrev pub is_ending : Stage → Bool
+is_ending (stage.Ends e) = true
+is_ending _ = false
+
 -- ---- what a session keeps
 
 -- the plan of a first statement: it enlists at ds first

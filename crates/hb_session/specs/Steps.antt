@@ -26,7 +26,7 @@ use Rattle.hb_session.specs.declared.session.Turn.{Turn}
 use Rattle.hb_session.specs.declared.session.Turn.TheVariants as turn
 use Rattle.hb_session.specs.declared.stage.Stage.{Stage}
 use Rattle.hb_session.specs.declared.stage.Stage.TheVariants as stage
-use Rattle.hb_session.specs.Sitting.{Sitting, counted, finishing, in_transaction, is_busy, is_refused, stands, IsUsed}
+use Rattle.hb_session.specs.Sitting.{Sitting, counted, finishing, in_transaction, is_busy, is_ending, is_refused, stands, IsUsed}
 
 pub record SameSession (old new : Sitting) : Type 0 where
   pub index : new.index ≡ old.index
@@ -58,6 +58,12 @@ abbrev pub LeavesAs : Progress → Stage → Type 0
 LeavesAs (progress.Shown r) s = (is_busy s ≡ false) × (in_transaction s ≡ true)
 LeavesAs (progress.Ended r) s = s ≡ stage.Idle
 LeavesAs _ s = is_busy s ≡ true
+
+-- the end of a transaction goes on, or its reply was shown
+abbrev pub EndsOn : Progress → Stage → Type 0
+EndsOn progress.More s = is_ending s ≡ true
+EndsOn (progress.Ended r) s = ⊤
+EndsOn _ s = ⊥
 
 -- ---- one call
 
@@ -162,3 +168,8 @@ TurnIs st (turn.Next u) = (st ≡ stage.Open u) × IsUsed u
 abbrev pub Abandons : Stage → Sitting → Type 0
 Abandons (stage.Asks a) new = RollsBack (use_of a.plan.usage) reply.RolledBackEnd new
 Abandons _ new = ⊥
+
+-- a transaction between two statements is given up
+abbrev pub Closes : Stage → Sitting → Type 0
+Closes (stage.Open u) new = RollsBack (use_of u) reply.RolledBackEnd new
+Closes _ new = ⊥

@@ -9,8 +9,8 @@ ghost use Rattle.hb_model.specs.declared.statement.Statement.TheVariants as stat
 ghost use Rattle.hb_talk.specs.Sessions.{rolls_back as is_rolled_back};
 ghost use Rattle.hb_access.specs.Accesses.{use_of};
 ghost use Rattle.hb_commit.specs.Driving.{reply_to};
-ghost use Rattle.hb_session.specs.Sitting.{IsUsed, IsEnding, is_busy, replies};
-ghost use Rattle.hb_session.specs.Steps.{SameSession, Steps, LeavesAs, Gives, RollsBack, is_busy_fault, is_no_memory};
+ghost use Rattle.hb_session.specs.Sitting.{IsUsed, IsEnding, is_busy, is_ending, replies};
+ghost use Rattle.hb_session.specs.Steps.{SameSession, Steps, LeavesAs, EndsOn, Gives, RollsBack, is_busy_fault, is_no_memory};
 ghost use Rattle.hb_session.specs.declared.stage.Stage.TheVariants as stage;
 
 use crate::session::{GiveFault, Progress, Session};
@@ -62,6 +62,7 @@ impl Session {
         ensures same { SameSession self.old self.new }
         ensures begun { self.new.begun ≡ self.old.begun }
         ensures busy { is_busy self.new.stage ≡ true }
+        ensures ending { is_ending self.new.stage ≡ true }
         ensures rolls { RollsBack (use_of usage) back self.new }
     {
         let driver = Driver::back(self.alloc, usage.tx, usage.used);
@@ -101,6 +102,7 @@ impl Session {
         requires ending { IsEnding ending.usage ending.driver }
         ensures same { SameSession self.old self.new }
         ensures leaves { LeavesAs result self.new.stage }
+        ensures ending { EndsOn result self.new.stage }
         ensures steps { Steps (record self.old { stage = stage.Ends ending }) self.new (N.lists nodes.old) (N.lists nodes.new) result }
         ensures goes { Onward N.goes nodes.old nodes.new }
     {

@@ -4,8 +4,8 @@ ghost use Rattle.hb_session.specs.declared.session.GiveFault.TheVariants as faul
 ghost use Rattle.hb_model.specs.Plain.{is_plain};
 ghost use Rattle.hb_node.specs.Lists.{Onward};
 ghost use Rattle.hb_plan.specs.Planned.{is_planned};
-ghost use Rattle.hb_session.specs.Sitting.{in_transaction as has_transaction, is_busy, is_waiting, IsWithin};
-ghost use Rattle.hb_session.specs.Steps.{SameSession, Stepped, TurnIs, Gives, Abandons, is_busy_fault};
+ghost use Rattle.hb_session.specs.Sitting.{in_transaction as has_transaction, is_busy, is_ending, is_waiting, IsWithin};
+ghost use Rattle.hb_session.specs.Steps.{SameSession, Stepped, EndsOn, TurnIs, Gives, Abandons, Closes, is_busy_fault};
 ghost use Rattle.hb_session.specs.declared.stage.Stage.TheVariants as stage_of;
 
 use crate::stage::Stage;
@@ -123,6 +123,7 @@ impl Session {
     pub fn step<N: Nodes>(&mut self, nodes: &mut N) -> Progress
         requires { is_busy self.old.stage ≡ true }
         ensures stepped { Stepped self.old self.new (N.lists nodes.old) (N.lists nodes.new) result }
+        ensures ending { is_ending self.old.stage ≡ true → EndsOn result self.new.stage }
         ensures goes { Onward N.goes nodes.old nodes.new }
     {
         let stage = std::mem::replace(&mut self.stage, Stage::Idle);
@@ -134,6 +135,7 @@ impl Session {
         requires within { IsWithin stage }
         requires busy { is_busy stage ≡ true }
         ensures stepped { Stepped (record self.old { stage = stage }) self.new (N.lists nodes.old) (N.lists nodes.new) result }
+        ensures ending { is_ending stage ≡ true → EndsOn result self.new.stage }
         ensures goes { Onward N.goes nodes.old nodes.new }
     {
         match stage {
@@ -156,6 +158,7 @@ impl Session {
         ensures same { SameSession self.old self.new }
         ensures begun { self.new.begun ≡ self.old.begun }
         ensures busy { is_busy self.new.stage ≡ true }
+        ensures ending { is_ending self.new.stage ≡ true }
         ensures abandons { Abandons self.old.stage self.new }
     {
         let usage = match &self.stage {
@@ -163,6 +166,22 @@ impl Session {
             _ => return,
         };
         self.roll_back(usage, Reply::RolledBackEnd);
+    }
+
+    /// Gives up a transaction that is between two statements: what follows is a rolling back.
+    pub fn close(&mut self)
+        requires open { has_transaction self.old.stage ≡ true }
+        requires idle { is_busy self.old.stage ≡ false }
+        ensures same { SameSession self.old self.new }
+        ensures begun { self.new.begun ≡ self.old.begun }
+        ensures busy { is_busy self.new.stage ≡ true }
+        ensures ending { is_ending self.new.stage ≡ true }
+        ensures closes { Closes self.old.stage self.new }
+    {
+        match self.stage {
+            Stage::Open(usage) => self.roll_back(usage, Reply::RolledBackEnd),
+            _ => {}
+        }
     }
 
     /// Whether a transaction was begun and hasn't ended.

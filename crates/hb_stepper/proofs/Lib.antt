@@ -1,4 +1,9 @@
+mod Adding
+mod LastTurns
+mod Others
 mod Refusals
+mod RolledBack
+mod Rolling
 mod Seats
 mod Stepping
 mod Turns

@@ -1,4 +1,7 @@
+pub mod Adding
 pub mod Advancing
+pub mod Closing
+pub mod Finishing
 pub mod Giving
 pub mod Names
 pub mod Running

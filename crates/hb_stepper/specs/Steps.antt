@@ -7,7 +7,8 @@ use Rattle.hb_model.specs.declared.reply.Reply.TheVariants as reply
 use Rattle.hb_node.specs.Lists.{Lists}
 use Rattle.hb_session.specs.declared.session.Progress.{Progress}
 use Rattle.hb_session.specs.declared.session.Progress.TheVariants as progress
-use Rattle.hb_session.specs.Steps.{Stepped}
+use Rattle.hb_session.specs.Sitting.{is_ending}
+use Rattle.hb_session.specs.Steps.{Stepped, EndsOn}
 use Rattle.hb_stepper.specs.declared.seat.Seat.{Seat}
 use Rattle.hb_stepper.specs.Waiters.{waiters_after}
 use Rattle.hb_stepper.specs.Running.{Running, seat_is, asked, busy, going, waits, askable}
@@ -33,6 +34,7 @@ unanswered work _ = work
 -- a session made one step: what its contract says, and what is shown answers what was given to it
 pub record SeatSteps (old new : Seat) (before after : Lists) (shows : Progress) : Type 0 where
   pub stepped : Stepped old.session new.session before after shows
+  pub ending : is_ending old.session.stage ≡ true → EndsOn shows new.session.stage
   pub work : new.work ≡ unanswered old.work shows
   pub held : new.held ≡ old.held
 

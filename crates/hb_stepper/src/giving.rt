@@ -5,6 +5,7 @@ ghost use Rattle.hb_model.specs.declared.line.Work.TheVariants as work_of;
 ghost use Rattle.hb_node.specs.Lists.{Lists};
 ghost use Rattle.hb_session.specs.Steps.{Gives};
 ghost use Rattle.hb_stepper.specs.declared.fault.StepFault.TheVariants as fault_of;
+ghost use Rattle.hb_stepper.specs.Adding.{Adds};
 ghost use Rattle.hb_stepper.specs.Giving.{is_end as ends, seat_refusal, refusal as refusal_at, reply_of as reply_to, Given, GivenAt, NamedInPart, Refuses, Starts, given_line};
 ghost use Rattle.hb_stepper.specs.Names.{Named};
 ghost use Rattle.hb_stepper.specs.Running.{running};
@@ -113,7 +114,9 @@ impl Sessions {
     /// alone. Where it is refused, the refusal's line is shown.
     pub fn give(&mut self, name: &Text, statement: Statement, held: bool) -> Result<(), StepFault>
         requires { IsTrue (is_plain statement) }
-        ensures { (lists : Lists) → Given (running self.old lists) name.now statement held result (running self.new lists) }
+        ensures given { (lists : Lists) → Given (running self.old lists) name.now statement held result (running self.new lists) }
+        ensures adds { Adds self.old.lines.items self.new.lines.items }
+        ensures names { Adds self.old.names.items self.new.names.items }
     {
         match self.ready(name, &statement) {
             Ok((place, work)) => self.give_at(place, statement, work, held),

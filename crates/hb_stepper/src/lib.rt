@@ -2,8 +2,10 @@
 #![tactic(auto)]
 
 mod advancing;
+mod closing;
 mod counts;
 mod fault;
+mod finishing;
 mod giving;
 mod names;
 mod seat;

@@ -1,6 +1,7 @@
 // The sessions' names.
 ghost use Rattle.std.specs.Prelude.{◌≡◌, ◌++◌, ◌∷◌, [], ℕ, Some, None, IfOk, OnErr, IfSome, IfNone, length, vec_len, vec_capacity, IsTrue, ◌↔◌, ◌<◌};
 ghost use Rattle.hb_node.specs.Lists.{Lists};
+ghost use Rattle.hb_stepper.specs.Adding.{Adds};
 ghost use Rattle.hb_stepper.specs.Names.{IsPlaceOf, IsNew, IsFresh, Seated, IsAdded, Named};
 ghost use Rattle.hb_stepper.specs.Running.{running};
 
@@ -35,9 +36,11 @@ fn find(names: &[Text], name: &Text) -> Option<usize>
 
 impl Sessions {
     /// The place of a name. A new one is put behind the others.
-    pub(crate) fn place_of(&mut self, name: &Text) -> Result<usize, NoMemory>
+    pub fn place_of(&mut self, name: &Text) -> Result<usize, NoMemory>
         ensures named { IfOk result (λ place. (lists : Lists) → Named (running self.old lists) name.now place (running self.new lists)) }
         ensures none { OnErr result ((lists : Lists) → running self.new lists ≡ running self.old lists) }
+        ensures adds { Adds self.old.lines.items self.new.lines.items }
+        ensures names { Adds self.old.names.items self.new.names.items }
     {
         match find(self.names.as_slice(), name) {
             Some(place) => Ok(place),

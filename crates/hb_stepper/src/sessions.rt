@@ -2,6 +2,7 @@
 ghost use Rattle.std.specs.Prelude.{◌≡◌, ◌<◌, ◌≤◌, ◌++◌, ◌==◌, ℕ, true, false, not, filter, vec_len, vec_capacity, [], Some, None, IfOk, OnOk, OnErr};
 ghost use Rattle.hb_node.specs.Lists.{Lists, Onward};
 ghost use Rattle.hb_session.specs.declared.session.Progress.{Progress as Step};
+ghost use Rattle.hb_stepper.specs.Adding.{Adds};
 ghost use Rattle.hb_stepper.specs.Shown.{listed};
 ghost use Rattle.hb_stepper.specs.Waiters.{waiters_after};
 
@@ -25,6 +26,7 @@ pub struct Sessions {
 
 impl Sessions {
     ghost use Rattle.hb_stepper.specs.Running.{running, seat_is, askable, busy as is_in_progress, going as can_go_on, asked as is_asked};
+    ghost use Rattle.hb_stepper.specs.Finishing.{RanOut};
     ghost use Rattle.hb_stepper.specs.Steps.{OneStep, Made, Ran, Asked, IsReady, Resumed};
 
     /// No name was seen yet.
@@ -143,9 +145,8 @@ impl Sessions {
     }
 
     /// Runs the session at a place to its end or to a wait, if its statement can go on.
-    fn run_out<N: Nodes>(&mut self, nodes: &mut N, place: usize) -> Result<(), NoMemory>
-        ensures ran { OnOk result ((count : ℕ) × Ran place (running self.old (N.lists nodes.old)) count (running self.new (N.lists nodes.new))) }
-        ensures stopped { OnOk result (seat_is can_go_on self.new.seats.items place ≡ false) }
+    pub(crate) fn run_out<N: Nodes>(&mut self, nodes: &mut N, place: usize) -> Result<(), NoMemory>
+        ensures ran { OnOk result (RanOut (running self.old (N.lists nodes.old)) place (running self.new (N.lists nodes.new))) }
         ensures part { Made (running self.old (N.lists nodes.old)) (running self.new (N.lists nodes.new)) }
         ensures goes { Onward N.goes nodes.old nodes.new }
     {
@@ -164,6 +165,8 @@ impl Sessions {
     pub fn resume_waiting<N: Nodes>(&mut self, nodes: &mut N) -> Result<(), NoMemory>
         ensures resumed { OnOk result (Resumed (running self.old (N.lists nodes.old)) (running self.new (N.lists nodes.new))) }
         ensures part { Made (running self.old (N.lists nodes.old)) (running self.new (N.lists nodes.new)) }
+        ensures adds { Adds self.old.lines.items self.new.lines.items }
+        ensures names { Adds self.old.names.items self.new.names.items }
         ensures goes { Onward N.goes nodes.old nodes.new }
     {
         'rounds: for _ in 0..u64::MAX {
@@ -188,7 +191,7 @@ fn note_wait(waiters: &mut Vec<usize>, place: usize, was: bool, waits: bool)
     }
 }
 
-fn take_out(waiters: &mut Vec<usize>, place: usize)
+pub(crate) fn take_out(waiters: &mut Vec<usize>, place: usize)
     ensures { waiters.new.items ≡ filter (λ w. not (w == place)) waiters.old.items }
 {
     waiters.retain(|w| *w != place);

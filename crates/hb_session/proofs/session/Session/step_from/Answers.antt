@@ -1,6 +1,9 @@
-use Rattle.std.proofs.Common.{refl}
+use Rattle.std.proofs.Common.{◌≡◌, true, false, ap, refl, sym, ◌∙◌}
+use Rattle.std.proofs.lemmas.Bool.{false≢true}
 use Rattle.hb_node.specs.Lists.{here}
 use Rattle.hb_session.specs.declared.stage.Stage.TheVariants as stage
+use Rattle.hb_session.specs.declared.stage.Stage.{Stage}
+use Rattle.hb_session.specs.Sitting.{is_ending}
 use Rattle.hb_session.proofs.Begins.{asked_step, shown_step}
 use Rattle.hb_session.proofs.session.Session.step_from.Goals as goal
 
@@ -26,3 +29,21 @@ returns-in-Refused-clause-stepped g c =
 
 pub returns-in-Refused-clause-goes : goal.returns-in-Refused-clause-goes
 returns-in-Refused-clause-goes g c = here
+
+not_ending : {A : Type 0} (at st : Stage) → at ≡ st → is_ending st ≡ false → is_ending at ≡ true → A
+not_ending at st is not h = absurd (false≢true (sym not ∙ sym (ap is_ending is) ∙ h))
+
+pub returns-in-Begins-clause-ending : goal.returns-in-Begins-clause-ending
+returns-in-Begins-clause-ending g c = λ h. not_ending c.args.stage _ c.in-Begins.is refl h
+
+pub returns-in-Enters-clause-ending : goal.returns-in-Enters-clause-ending
+returns-in-Enters-clause-ending g c = λ h. not_ending c.args.stage _ c.in-Enters.is refl h
+
+pub returns-in-Asks-clause-ending : goal.returns-in-Asks-clause-ending
+returns-in-Asks-clause-ending g c = λ h. not_ending c.args.stage _ c.in-Asks.is refl h
+
+pub returns-in-Ends-clause-ending : goal.returns-in-Ends-clause-ending
+returns-in-Ends-clause-ending g c = λ h. c.end.ensures.ending
+
+pub returns-in-Refused-clause-ending : goal.returns-in-Refused-clause-ending
+returns-in-Refused-clause-ending g c = λ h. not_ending c.args.stage _ c.in-Refused.is refl h

@@ -3,6 +3,7 @@ use Rattle.std.proofs.lemmas.Bool.{false≢true}
 use Rattle.hb_node.specs.Lists.{here}
 use Rattle.hb_stepper.specs.Running.{running, seat_is, busy}
 use Rattle.hb_stepper.specs.Steps.{not_yet}
+use Rattle.hb_stepper.proofs.Adding.{adds_on, adds_same, adds_made, names_made}
 use Rattle.hb_stepper.proofs.Stepping.{idle_going, on_err}
 use Rattle.hb_stepper.proofs.sessions.Sessions.advance.Goals as goal
 
@@ -46,3 +47,27 @@ returns-clause-advanced g c =
       idle = λ h. absurd (false≢true (sym h ∙ on));
       some = λ h more. c.in_ok-made.ensures.some more;
     }
+
+pub returns-in_err-place-clause-adds : goal.returns-in_err-place-clause-adds
+returns-in_err-place-clause-adds g c = c.in_err-place.ensures.adds
+
+pub returns-in_err-place-clause-names : goal.returns-in_err-place-clause-names
+returns-in_err-place-clause-names g c = c.in_err-place.ensures.names
+
+pub returns-then-not-is_busy-clause-adds : goal.returns-then-not-is_busy-clause-adds
+returns-then-not-is_busy-clause-adds g c = c.in_ok-place.ensures.adds
+
+pub returns-then-not-is_busy-clause-names : goal.returns-then-not-is_busy-clause-names
+returns-then-not-is_busy-clause-names g c = c.in_ok-place.ensures.names
+
+pub returns-in_err-made-clause-adds : goal.returns-in_err-made-clause-adds
+returns-in_err-made-clause-adds g c = adds_on _ _ _ c.in_ok-place.ensures.adds (adds_made _ _ c.in_err-made.ensures.part)
+
+pub returns-in_err-made-clause-names : goal.returns-in_err-made-clause-names
+returns-in_err-made-clause-names g c = adds_on _ _ _ c.in_ok-place.ensures.names (adds_same _ _ (names_made _ _ c.in_err-made.ensures.part))
+
+pub returns-clause-adds : goal.returns-clause-adds
+returns-clause-adds g c = adds_on _ _ _ c.in_ok-place.ensures.adds (adds_made _ _ c.in_ok-made.ensures.part)
+
+pub returns-clause-names : goal.returns-clause-names
+returns-clause-names g c = adds_on _ _ _ c.in_ok-place.ensures.names (adds_same _ _ (names_made _ _ c.in_ok-made.ensures.part))
