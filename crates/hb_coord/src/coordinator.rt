@@ -32,6 +32,7 @@ impl<D: Disk> Coordinator<D> {
         ensures run { (items : List LogItem) → is_some (D.content log) ≡ true → ((image : Image) → D.left log (D.last log) image → IsLog image items) → Explains D.content D.left D.last (stopped_at items) [] result.state (D.last log) }
         ensures content { content_in D.content result.state ≡ D.content log }
         ensures left { (m : ℕ) (image : Image) → left_in D.left result.state m image ↔ D.left log m image }
+        ensures last { last_in D.last result.state ≡ D.last log }
         ensures faults { faults_in D.faults result.state ≡ D.faults log }
         ensures ends { ends_in result.state ≡ 0 }
     {

@@ -4,7 +4,7 @@ ghost use Rattle.hb_edge.specs.Images.{Image};
 ghost use Rattle.hb_types.specs.declared.change.LogItem.{LogItem};
 ghost use Rattle.hb_runs.specs.Coordinator.{stopped_at};
 ghost use Rattle.hb_node.specs.Laws.{deciding};
-ghost use Rattle.hb_coord.specs.Law.{content_in, ends_in, left_in};
+ghost use Rattle.hb_coord.specs.Law.{content_in, ends_in, faults_in, last_in, left_in};
 ghost use Rattle.hb_coord.specs.Standing.{IsLog};
 ghost use Rattle.hb_front.specs.Fronting.{Explains};
 
@@ -29,6 +29,8 @@ impl<D: Disk> Front<D> {
         ensures explained { (items : List LogItem) → is_some (D.content log) ≡ true → ((image : Image) → D.left log (D.last log) image → IsLog image items) → Explains D.content D.left D.last result.coordinator.state (deciding (stopped_at items)) [] }
         ensures trail { result.trail.entries ≡ [] }
         ensures left { (m : ℕ) (image : Image) → left_in D.left result.coordinator.state m image ↔ D.left log m image }
+        ensures last { last_in D.last result.coordinator.state ≡ D.last log }
+        ensures faults { faults_in D.faults result.coordinator.state ≡ D.faults log }
     {
         Front {
             coordinator: Coordinator::new(alloc, log),

@@ -106,10 +106,11 @@ answered_goes e old new h = record {
 -- ---- all nodes
 
 pub goes_same : (a : Seen) → Goes a a
-goes_same a = record { clock = omega arith; each = λ name. node_stays a.moment a.moment (a.node name) (omega arith) }
+goes_same a = record { clock = omega arith; count = refl; each = λ name. node_stays a.moment a.moment (a.node name) (omega arith) }
 
 pub goes_on : (a b c : Seen) → Goes a b → Goes b c → Goes a c
 goes_on a b c g h = record {
   clock = omega (arith, g.clock, h.clock);
+  count = h.count ∙ g.count;
   each = λ name. node_goes_on a.moment b.moment c.moment (a.node name) (b.node name) (c.node name) g.clock (g.each name) (h.each name);
 }

@@ -1,5 +1,5 @@
 -- A call of one node in a list, and a call of the manager beside it.
-use Rattle.std.proofs.Common.{◌≡◌, ◌≢◌, ℕ, zero, suc, ◌≤◌, ◌<◌, ◌==◌, Bool, true, false, List, [], ◌∷◌, ◌++◌, ◌⊎◌, inl, inr, length, get_or, set, sym, ap, subst, refl, ◌∙◌, arith}
+use Rattle.std.proofs.Common.{◌≡◌, ◌≢◌, ℕ, zero, suc, ◌≤◌, ◌<◌, ◌==◌, Bool, true, false, List, [], ◌∷◌, ◌++◌, ◌⊎◌, inl, inr, length, get_or, set, sym, ap, subst, refl, ◌∙◌, length-set, arith}
 use Rattle.std.specs.Prelude.{Option, Some, slice_get}
 use Rattle.std.proofs.lemmas.Bool.{cases_eq, eqb-true, ne_eqb}
 use Rattle.std.proofs.lemmas.List.{append-nil, map-append}
@@ -67,19 +67,19 @@ pub manager_goes : {N M : Type 0} (n : Meanings N) (m : Meanings M) (were are : 
     → Answered (entry_of q a from to) (told_of m (Some was)) (told_of m (Some now)) → Goes (seen n m were was from) (seen n m are now to)
 manager_goes {N} {M} n m were are was now q a from to le same h =
     let P : List N → Type 0 = λ xs. Goes (seen n m were was from) (seen n m xs now to) in
-    subst P (sym same) (record { clock = le; each = λ name. by_name name (name == mgr) })
+    subst P (sym same) (record { clock = le; count = refl; each = λ name. by_name name (name == mgr) })
   where
     by_name : (name : ℕ) (b : Bool) → NodeGoes from to (told_at n m were was name b) (told_at n m were now name b)
     by_name name true = answered_goes (entry_of q a from to) (told_of m (Some was)) (told_of m (Some now)) h
     by_name name false = node_stays from to (told_of n (slice_get were name)) le
 
 -- something was done with a node of the list alone
-pub one_goes : {N M : Type 0} (n : Meanings N) (m : Meanings M) (were are : List N) (was now : M) (at from to : ℕ) → from ≤ to → now ≡ was
+pub one_goes : {N M : Type 0} (n : Meanings N) (m : Meanings M) (were are : List N) (was now : M) (at from to : ℕ) → from ≤ to → now ≡ was → length are ≡ length were
     → NodeGoes from to (told_of n (slice_get were at)) (told_of n (slice_get are at)) → ((i : ℕ) → i ≢ at → slice_get are i ≡ slice_get were i)
     → Goes (seen n m were was from) (seen n m are now to)
-one_goes {N} {M} n m were are was now at from to le same h others =
+one_goes {N} {M} n m were are was now at from to le same long h others =
     let P : M → Type 0 = λ x. Goes (seen n m were was from) (seen n m are x to) in
-    subst P (sym same) (record { clock = le; each = λ name. by_name name (name == mgr) })
+    subst P (sym same) (record { clock = le; count = long; each = λ name. by_name name (name == mgr) })
   where
     one : (name : ℕ) → (name ≡ at) ⊎ (name ≢ at) → NodeGoes from to (told_of n (slice_get were name)) (told_of n (slice_get are name))
     one name (inl is) =
@@ -93,11 +93,11 @@ one_goes {N} {M} n m were are was now at from to le same h others =
     by_name name true = node_stays from to (told_of m (Some was)) le
     by_name name false = one name (cases_eq name at)
 
-pub server_goes : {N M : Type 0} (n : Meanings N) (m : Meanings M) (were are : List N) (was now : M) (at : ℕ) (q : Request) (a : Answer) (from to : ℕ) → from ≤ to → now ≡ was
+pub server_goes : {N M : Type 0} (n : Meanings N) (m : Meanings M) (were are : List N) (was now : M) (at : ℕ) (q : Request) (a : Answer) (from to : ℕ) → from ≤ to → now ≡ was → length are ≡ length were
     → Answered (entry_of q a from to) (told_of n (slice_get were at)) (told_of n (slice_get are at)) → ((i : ℕ) → i ≢ at → slice_get are i ≡ slice_get were i)
     → Goes (seen n m were was from) (seen n m are now to)
-server_goes n m were are was now at q a from to le same h others =
-    one_goes n m were are was now at from to le same (answered_goes (entry_of q a from to) (told_of n (slice_get were at)) (told_of n (slice_get are at)) h) others
+server_goes n m were are was now at q a from to le same long h others =
+    one_goes n m were are was now at from to le same long (answered_goes (entry_of q a from to) (told_of n (slice_get were at)) (told_of n (slice_get are at)) h) others
 
 -- a node of the list was armed
 armed : {N : Type 0} (n : Meanings N) (was now : N) (moment : ℕ) → n.named now ≡ n.named was → n.trail now ≡ n.trail was
@@ -134,13 +134,13 @@ pub armed_at : {N M : Type 0} (n : Meanings N) (m : Meanings M) (nodes : List N)
 armed_at {N} {M} n m nodes manager at was now d moment within is named trail explains leaves last =
     let P : Option N → Type 0 = λ o. NodeGoes moment moment (told_of n o) (told_of n (slice_get (set nodes at now) at)) in
     let Q : Option N → Type 0 = λ o. NodeGoes moment moment (told_of n (Some was)) (told_of n o) in
-    one_goes n m nodes (set nodes at now) manager manager at moment moment (omega arith) refl
+    one_goes n m nodes (set nodes at now) manager manager at moment moment (omega arith) refl (length-set nodes at now)
     (subst P (ap (λ (x : N). Some x) is ∙ sym (slice_get-get_or nodes at d within)) (subst Q (sym (got_where_set nodes at now within)) (armed n was now moment named trail explains leaves last)))
     (λ i apart. got_elsewhere nodes at i now apart)
 
 -- nothing was done, and the clock went on
 pub later_goes : {N M : Type 0} (n : Meanings N) (m : Meanings M) (nodes : List N) (manager : M) (from to : ℕ) → from ≤ to → Goes (seen n m nodes manager from) (seen n m nodes manager to)
-later_goes n m nodes manager from to le = record { clock = le; each = λ name. node_stays from to ((seen n m nodes manager from).node name) le }
+later_goes n m nodes manager from to le = record { clock = le; count = refl; each = λ name. node_stays from to ((seen n m nodes manager from).node name) le }
 
 -- ---- lists
 

@@ -32,9 +32,10 @@ pub record NodeGoes (from to : ℕ) (old new : Told) : Type 0 where
   pub images : (origin : State) → IsLawful from origin old → (m : ℕ) (log area : Image) → from ≤ m → new.leaves m log area → MadeBetween origin old.list new.list log
   pub before : (origin : State) → IsLawful from origin old → (m : ℕ) (log area : Image) → m < from → new.leaves m log area → old.leaves m log area
 
--- all of them
+-- all of them, as many as before
 pub record Goes (old new : Seen) : Type 0 where
   pub clock : old.moment ≤ new.moment
+  pub count : new.count ≡ old.count
   pub each : (name : ℕ) → NodeGoes old.moment new.moment (old.node name) (new.node name)
 
 -- one node that answered a call, by its own contract

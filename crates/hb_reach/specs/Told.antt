@@ -1,5 +1,5 @@
 -- What is told of several nodes at one moment: of each by its number, and of the manager, which is number 10.
-use Rattle.std.specs.Prelude.{ℕ, ◌==◌, Bool, true, false, List, [], Option, Some, None, slice_get, ⊤}
+use Rattle.std.specs.Prelude.{ℕ, ◌==◌, Bool, true, false, List, [], length, Option, Some, None, slice_get, ⊤}
 use Rattle.hb_edge.specs.Images.{Image}
 use Rattle.hb_types.specs.declared.answer.Answer.{Answer}
 use Rattle.hb_types.specs.declared.answer.Answer.TheVariants as answer
@@ -34,9 +34,10 @@ abbrev pub told_of : {N : Type 0} → Meanings N → Option N → Told
 told_of m None = record { named = None; list = []; explains = λ _. ⊤; leaves = λ _ _ _. ⊥; last = 0 }
 told_of m (Some n) = record { named = Some (m.named n); list = asked_of (m.trail n); explains = λ origin. m.explains n origin (asked_of (m.trail n)); leaves = m.leaves n; last = m.last n }
 
--- what is told of the nodes by number, and the moment
+-- what is told of the nodes by number, how many they are but for the manager, and the moment
 pub record Seen : Type 1 where
   pub node : ℕ → Told
+  pub count : ℕ
   pub moment : ℕ
 
 abbrev pub mgr : ℕ
@@ -58,4 +59,4 @@ told_at n m nodes manager name true = told_of m (Some manager)
 told_at n m nodes manager name false = told_of n (slice_get nodes name)
 
 abbrev pub seen : {N M : Type 0} → Meanings N → Meanings M → List N → M → ℕ → Seen
-seen n m nodes manager moment = record { node = λ name. told_at n m nodes manager name (name == mgr); moment = moment }
+seen n m nodes manager moment = record { node = λ name. told_at n m nodes manager name (name == mgr); count = length nodes; moment = moment }

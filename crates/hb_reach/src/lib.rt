@@ -5,4 +5,4 @@ mod reach;
 #[cfg(test)]
 mod tests;
 
-pub use reach::{MANAGER, Reach};
+pub use reach::{MANAGER, Reach, nodes_stay};

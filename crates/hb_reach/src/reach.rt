@@ -3,9 +3,11 @@ ghost use Rattle.std.specs.Prelude.{◌≡◌, ◌≢◌, ◌≤◌, ◌<◌, �
 ghost use Rattle.hb_types.specs.declared.answer.Answer.TheVariants as answer;
 ghost use Rattle.hb_types.specs.Calls.{IsRequest, IsAnswer};
 ghost use Rattle.hb_node.specs.Laws.{entry_of};
-ghost use Rattle.hb_node.specs.Lists.{OneMore};
+ghost use Rattle.hb_node.specs.Lists.{OneMore, Onward};
 ghost use Rattle.hb_reach.specs.Told.{meanings, seen, told_of, mgr, is_stop as asks_stop, has_stopped as tells_stop};
 ghost use Rattle.hb_reach.specs.Goes.{Answered, Goes, HearsOf};
+ghost use Rattle.hb_reach.specs.Names.{AreNumbered};
+ghost use Rattle.hb_reach.specs.declared.reach.Reach.{Reach as Reaching};
 
 use hb_edge::Clock;
 use hb_node::{Node, Nodes};
@@ -107,6 +109,7 @@ impl<N: Node, M: Node> Reach<N, M> {
         ensures answered { Answered (entry_of request result self.old.clock self.new.clock)
             (told_of (meanings N.named N.trail N.explains N.leaves N.last) (slice_get self.old.nodes.items at))
             (told_of (meanings N.named N.trail N.explains N.leaves N.last) (slice_get self.new.nodes.items at)) }
+        ensures count { length self.new.nodes.items ≡ length self.old.nodes.items }
         ensures others { (i : ℕ) → i ≢ at → slice_get self.new.nodes.items i ≡ slice_get self.old.nodes.items i }
         ensures manager { self.new.manager ≡ self.old.manager }
         ensures clock { self.old.clock ≤ self.new.clock }
@@ -145,6 +148,12 @@ impl<N: Node, M: Node> Reach<N, M> {
         answer
     }
 }
+
+/// A law: whatever calls were made since, the nodes are as many as they were, and stand by their numbers if they did.
+pub fn nodes_stay<N: Node, M: Node>(_reach: &Reach<N, M>)
+    ensures count { (from : Reaching N M) → Onward ⟦<Reach<N, M> as Nodes>⟧.goes from _reach.now → length _reach.now.nodes.items ≡ length from.nodes.items }
+    ensures numbered { (from : Reaching N M) → Onward ⟦<Reach<N, M> as Nodes>⟧.goes from _reach.now → length from.nodes.items ≤ mgr → AreNumbered N.named from.nodes.items → AreNumbered N.named _reach.now.nodes.items }
+{}
 
 impl<N: Node, M: Node> Nodes for Reach<N, M> {
     ghost lists = { λ r name. ((seen (meanings N.named N.trail N.explains N.leaves N.last) (meanings M.named M.trail M.explains M.leaves M.last) r.nodes.items r.manager r.clock).node name).list };

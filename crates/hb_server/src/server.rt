@@ -1,5 +1,5 @@
 // The server.
-ghost use Rattle.std.specs.Prelude.{◌≡◌, ◌↔◌, ◌+◌, ◌≤◌, ◌<◌, ◌++◌, ◌∷◌, [], ℕ, Bool, List, Option};
+ghost use Rattle.std.specs.Prelude.{◌≡◌, ◌↔◌, ◌+◌, ◌≤◌, ◌<◌, ◌++◌, ◌∷◌, [], ℕ, max, Bool, List, Option};
 ghost use Rattle.hb_edge.specs.Causes.{Rose};
 ghost use Rattle.hb_edge.specs.Fuses.{last_of, faults_of};
 ghost use Rattle.hb_types.specs.declared.change.LogItem.{LogItem};
@@ -28,18 +28,21 @@ pub struct Server<D: Disk, S: Store> {
     pub alloc: Global,
     pub trail: Trail,
     pub state: State<Fused<D>, S>,
+    ghost numbered: { 1 ≤ name.0 },
     ghost fit: { ∥ IsFit S.rows S.room state ∥₁ },
 }
 
 impl<D: Disk, S: Store> Server<D, S> {
     /// A stopped one.
     pub fn new(alloc: Global, name: NodeName, log: D, area: D, store: S) -> Server<D, S>
-        ensures explains { (first : SState) (p : Option Point) (read : List LogItem) → (1 ≤ name.0) × (name.0 ≤ 9) → IsBase p read first
+        requires { (1 ≤ name.0) × (name.0 ≤ 9) }
+        ensures explains { (first : SState) (p : Option Point) (read : List LogItem) → IsBase p read first
             → Rests D.content D.left D.last (IsStoppedLog p read first []) log (D.last log) → Rests D.content D.left D.last (λ image. S.point_in image p) area (D.last area)
             → ExplainsNode D.content D.left D.last S.rows S.keeps S.staged S.point_in result.name.0 result.state (serving first) (asked_of result.trail.entries) }
         ensures name { result.name ≡ name }
         ensures trail { result.trail.entries ≡ [] }
         ensures leaves { (m : ℕ) (log_image area_image : List ℕ) → leaves_in D.left result.state m log_image area_image ↔ (D.left log m log_image × D.left area m area_image) }
+        ensures last { last_in (last_of D.last) result.state ≡ max (D.last log) (D.last area) }
         ensures faults { faults_in (faults_of D.faults) result.state ≡ D.faults log + D.faults area }
     {
         let (log, area) = (Fused::new(log), Fused::new(area));

@@ -1,4 +1,7 @@
 mod Begins
+mod FreshFront
+mod FreshServer
+mod Giving
 mod Making
 mod Opened
 mod Zips

@@ -1,7 +1,7 @@
 -- A node is made of the first disks that are left.
 use Rattle.std.proofs.Common.{◌≡◌, ◌⊎◌, inl, inr, ℕ, zero, suc, ◌+◌, ◌≤◌, ◌<◌, List, [], ◌∷◌, ◌++◌, length, get_or, All, sym, ap, subst, refl, arith, length-append, take, drop}
 use Rattle.std.proofs.lemmas.List.Elements.{All-append, All-drop, All-same, All-take}
-use Rattle.hb_system.specs.Starting.{Meanings}
+use Rattle.hb_reach.specs.Told.{Meanings}
 use Rattle.hb_system.specs.Making.{IsMade, AreMade, origin_of, server_origin}
 
 got_last : {N : Type 0} (xs : List N) (x d : N) → get_or (xs ++ x ∷ []) (length xs) d ≡ x

@@ -1,4 +1,5 @@
 pub mod Disks
+pub mod Giving
 pub mod Making
 pub mod Opening
 pub mod Starting

@@ -5,7 +5,7 @@ use Rattle.hb_edge.specs.Stops.{Only}
 use Rattle.hb_disks.specs.Redo.{nothing}
 use Rattle.hb_runs.specs.Coordinator.{stopped_at}
 use Rattle.hb_node.specs.Laws.{State, serving, deciding}
-use Rattle.hb_system.specs.Starting.{Meanings}
+use Rattle.hb_reach.specs.Told.{Meanings}
 
 -- the disk tells that it is empty, and a stop leaves it so
 pub record IsFresh {D : Type 0} (content : D → Option Image) (left : D → ℕ → Image → Type 0) (last : D → ℕ) (d : D) : Type 0 where

@@ -14,7 +14,12 @@ use Rattle.hb_types.specs.declared.answer.Answer.TheVariants as answer
 use Rattle.hb_types.specs.declared.request.Request.TheVariants as request
 use Rattle.hb_types.specs.declared.names.Tx.{Tx}
 use Rattle.hb_system.specs.Making.{origin_of}
-use Rattle.hb_system.specs.Starting.{IsDisksOf, IsLawful, Meanings}
+use Rattle.hb_reach.specs.Goes.{IsLawful}
+use Rattle.hb_reach.specs.Told.{Meanings, told_of}
+use Rattle.hb_system.specs.Giving.{Counts, Gives}
+use Rattle.hb_system.specs.Starting.{IsDisksOf}
+use Rattle.hb_system.specs.Variants.{of_kind}
+use Rattle.hb_system.specs.declared.node.SystemNode.{SystemNode}
 
 -- so many disks are those of a system
 abbrev pub AreDisks : ℕ → Type 0
@@ -70,14 +75,27 @@ is_early refusal.Start = false
 is_early refusal.Memory = false
 is_early _ = true
 
--- The system was refused for a cause: its status and its line are told. Where no node was made, the disks are given back as they
--- were, in their order: nothing was done with them but that they were synced.
-pub record IsRefused {D : Type 0} (content : D → Option Image) (last faults : D → ℕ) (from : ℕ) (old : List D) (status : ℕ) (told : Option Line) (new : List D) : Type 0 where
+-- A node that was made of these disks failed in its Start: the count of its disks' failures, which began with theirs, rose. The nodes
+-- then gave these disks back.
+pub record HasFailed {D F S : Type 0} (left : D → ℕ → Image → Type 0) (faults : D → ℕ) (front : F → ℕ → Image → Image → Type 0) (server : S → ℕ → Image → Image → Type 0) (front_faults : F → ℕ) (server_faults : S → ℕ) (taken given : List D) : Type 0 where
+  pub before : List (SystemNode F S)
+  pub after : List (SystemNode F S)
+  pub counts : Counts faults front_faults server_faults before taken
+  pub fault : HasFault (of_kind front_faults server_faults) before after
+  pub gives : Gives left front server after given
+
+-- The system was refused for a cause: its status and its line are told. All disks are given back, in their order. Where no node was
+-- made they are as they were: nothing was done with them but that they were synced. Where they aren't the disks of a system, nothing
+-- was done at all.
+pub record IsRefused {D : Type 0} (content : D → Option Image) (last faults : D → ℕ) (Failed : List D → List D → Type 0) (from to : ℕ) (old : List D) (status : ℕ) (told : Option Line) (new : List D) : Type 0 where
   pub why : Refusal
   pub status_is : status ≡ status_of why
   pub told_is : told ≡ line_of why
   pub cause : IsCause content faults old new why
-  pub kept : is_early why ≡ true → (to : ℕ) × AreKept content last faults from to old new
+  pub count : length new ≡ length old
+  pub untouched : why ≡ refusal.Usage → (new ≡ old) × (to ≡ from)
+  pub kept : is_early why ≡ true → AreKept content last faults from to old new
+  pub failed : why ≡ refusal.Start → (taken : List D) × (mid : ℕ) × AreKept content last faults from mid old taken × Failed taken new
 
 -- the disk tells its content, and the moment is not behind it
 abbrev pub IsTold : {D : Type 0} → (D → Option Image) → (D → ℕ) → ℕ → D → Type 0
@@ -88,7 +106,7 @@ IsTold content last moment d = (is_some (content d) ≡ true) × IsInTime last m
 pub record IsOpen {N : Type 0} (premise : Type 0) (m : Meanings N) (moment name : ℕ) (node : N) : Type 0 where
   pub named : m.named node ≡ name
   pub asked_once : (doubts : List Tx) × (asked_of (m.trail node) ≡ asked request.Start (answer.Started doubts) ∷ [])
-  pub lawful : premise → IsLawful m moment (origin_of name) node
+  pub lawful : premise → IsLawful moment (origin_of name) (told_of m (Some node))
 
 -- the system is open: its disks were empty, and its nodes stand by their numbers
 pub record IsOpened {D N : Type 0} (content : D → Option Image) (last : D → ℕ) (m : Meanings N) (from to : ℕ) (disks : List D) (nodes : List N) : Type 0 where

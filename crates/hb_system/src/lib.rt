@@ -1,16 +1,20 @@
-//! The nodes of a system over its disks, and its opening.
+//! The nodes of a system over its disks: its opening, and its disks given back.
 #![tactic(auto)]
 
 mod disks;
 mod made;
 mod node;
 mod opening;
+mod real;
 mod refusal;
 mod seating;
 mod starting;
+#[cfg(test)]
+mod tests;
 
 pub use made::{OfDisks, OfLog};
 pub use node::SystemNode;
 pub use opening::{Refused, System, open};
+pub use real::{RealNode, close_system, open_system};
 pub use refusal::Refusal;
-pub use seating::into_disks;
+pub use seating::close;

@@ -1,7 +1,7 @@
 // Why a system isn't opened.
-ghost use Rattle.std.specs.Prelude.{◌≡◌, ◌≤◌, ◌-◌, ◌/◌, ℕ, true, false, length, vec_len, MatchResult};
+ghost use Rattle.std.specs.Prelude.{◌≡◌, ◌≤◌, ◌-◌, ◌/◌, ℕ, true, false, length, vec_len, Err, IfErr, MatchResult};
 ghost use Rattle.hb_system.specs.Disks.{AreKept};
-ghost use Rattle.hb_system.specs.Opening.{AreReady, IsCause, damage_at, line_of, status_of};
+ghost use Rattle.hb_system.specs.Opening.{AreReady, IsCause, damage_at, is_early, line_of, status_of};
 ghost use Rattle.hb_system.specs.Starting.{IsDisksOf};
 
 use crate::disks::{first_written, sync_all};
@@ -82,6 +82,8 @@ fn are_disks(count: usize) -> bool
 pub(crate) fn inspect<D: Disk>(disks: &mut [D], clock: &mut Clock) -> Result<(), Refusal>
     ensures kept { AreKept D.content D.last D.faults clock.old clock.new disks.old disks.new }
     ensures found { MatchResult result (λ _. AreReady D.content D.left D.last disks.new) (λ e. IsCause D.content D.faults disks.old disks.new e) }
+    ensures untouched { result ≡ Err Refusal.Usage → (disks.new ≡ disks.old) × (clock.new ≡ clock.old) }
+    ensures early { IfErr result (λ e. is_early e ≡ true) }
 {
     if !are_disks(disks.len()) {
         return Err(Refusal::Usage);
@@ -101,6 +103,8 @@ pub(crate) fn inspect<D: Disk>(disks: &mut [D], clock: &mut Clock) -> Result<(),
 pub(crate) fn inspect_all<D: Disk>(disks: &mut Vec<D>, clock: &mut Clock) -> Result<(), Refusal>
     ensures kept { AreKept D.content D.last D.faults clock.old clock.new disks.old.items disks.new.items }
     ensures found { MatchResult result (λ _. AreReady D.content D.left D.last disks.new.items) (λ e. IsCause D.content D.faults disks.old.items disks.new.items e) }
+    ensures untouched { result ≡ Err Refusal.Usage → (disks.new.items ≡ disks.old.items) × (clock.new ≡ clock.old) }
+    ensures early { IfErr result (λ e. is_early e ≡ true) }
     ensures len { vec_len disks.new ≡ vec_len disks.old }
 {
     inspect(disks, clock)

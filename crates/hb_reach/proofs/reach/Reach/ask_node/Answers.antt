@@ -41,7 +41,7 @@ returns-then-has_stopped-clause-goes g c =
     let done = c.ask_server-answer.ensures in
     let told = c.ask_manager-then-has_stopped.ensures in
     goes_on _ _ _
-    (server_goes n m old.nodes.items mid.nodes.items old.manager mid.manager c.args.node.0 c.args.request c.ask_server-answer.result old.clock mid.clock done.clock done.manager done.answered done.others)
+    (server_goes n m old.nodes.items mid.nodes.items old.manager mid.manager c.args.node.0 c.args.request c.ask_server-answer.result old.clock mid.clock done.clock done.manager done.count done.answered done.others)
     (manager_goes n m mid.nodes.items new.nodes.items mid.manager new.manager _ c.ask_manager-then-has_stopped.result mid.clock new.clock told.clock (ap (λ v. v.items) told.nodes) told.answered)
 
 pub returns-else-has_stopped-clause-one_more : goal.returns-else-has_stopped-clause-one_more
@@ -62,4 +62,4 @@ returns-else-has_stopped-clause-goes g c =
     let old = c.args.self.now in
     let new = c.ask_server-answer.new.self in
     let done = c.ask_server-answer.ensures in
-    server_goes n m old.nodes.items new.nodes.items old.manager new.manager c.args.node.0 c.args.request c.ask_server-answer.result old.clock new.clock done.clock done.manager done.answered done.others
+    server_goes n m old.nodes.items new.nodes.items old.manager new.manager c.args.node.0 c.args.request c.ask_server-answer.result old.clock new.clock done.clock done.manager done.count done.answered done.others

@@ -18,4 +18,4 @@ pub returns-clause-faults : goal.returns-clause-faults
 returns-clause-faults g c = rw c.arm.ensures (armed_faults g.D.Disk.faults (c.args.k - 1) c.args.area c.args.self.now.state)
 
 pub invariant_of-self : goal.invariant_of-self
-invariant_of-self g c = record { fit = rw c.arm.ensures (∥∥₁_map c.args.self.now.fit (armed_fit g.S.Store.rows g.S.Store.room (c.args.k - 1) c.args.area c.args.self.now.state)) }
+invariant_of-self g c = record { numbered = c.args.self.now.numbered; fit = rw c.arm.ensures (∥∥₁_map c.args.self.now.fit (armed_fit g.S.Store.rows g.S.Store.room (c.args.k - 1) c.args.area c.args.self.now.state)) }
