@@ -1,0 +1,9 @@
+pub mod SplitLemmas
+pub mod LineLemmas
+pub mod CutLemmas
+pub mod FrontLemmas
+pub mod ReturnLemmas
+pub mod Causes
+pub mod ReadingLemmas
+pub mod NextLemmas
+pub mod OneThing

@@ -1,0 +1,4 @@
+pub mod Growing
+pub mod NamedAgain
+pub mod Telling
+pub mod Given

@@ -1,0 +1,12 @@
+//! What one line of a script does to the sessions of a run.
+#![tactic(auto)]
+
+mod doing;
+mod giving;
+mod own;
+mod stepping;
+#[cfg(test)]
+mod tests;
+
+pub use doing::do_line;
+pub use own::Own;
