@@ -1,0 +1,8 @@
+mod Chains
+mod PutTexts
+mod Clocks
+mod Acting
+mod LinesSaid
+mod Running
+mod Halting
+mod CountWords

@@ -1,0 +1,32 @@
+use Rattle.std.proofs.Common.{ℕ, List, Global, arith, ◌≡◌, ◌++◌, sym, ap, subst, refl, ◌∙◌, length, drop, [], ◌∷◌}
+use Rattle.std.specs.Prelude.{OnOk, OnErr}
+use Rattle.std.specs.List.{flat_map}
+use Rattle.std.specs.declared.option.Option.{Option}
+use Rattle.std.proofs.lemmas.Result.{err_from_is_err_and}
+use Rattle.hb_edge.specs.Streams.{with_end}
+use Rattle.hb_node.specs.Lists.{here}
+use Rattle.hb_reach.specs.Told.{meanings}
+use Rattle.hb_stepper.specs.Running.{Running, running}
+use Rattle.hb_print.specs.Places.{Names}
+use Rattle.hb_print.specs.Texts.{text_of}
+use Rattle.hb_acts.specs.Acts.{Act, does, resumes, closes, ends, own_text, count_line, Reached, Halted}
+use Rattle.hb_acts.specs.Putting.{PutsFront}
+use Rattle.hb_acts.specs.declared.stop.Stop.TheVariants.{Memory, Sink}
+use Rattle.hb_acts.proofs.Clocks.{lists_now, onward_then}
+use Rattle.hb_acts.proofs.Acting.{on_err, on_err_map, on_ok_map, stops_error, stops_later, stops_memory, halted_front, halted_own, reached_line}
+use Rattle.hb_acts.proofs.Chains.{halted_act, halted_before, halted_none, halted_then, prints_since, reached_act, reached_then}
+use Rattle.hb_acts.proofs.acts.act_resume.Goals as goal
+
+pub returns-in_err-resume-clause-part : goal.returns-in_err-resume-clause-part
+returns-in_err-resume-clause-part g c = on_err _ _ (halted_none (running c.args.sessions.now (lists_now (meanings g.N.Node.named g.N.Node.trail g.N.Node.explains g.N.Node.leaves g.N.Node.last) (meanings g.M.Node.named g.M.Node.trail g.M.Node.explains g.M.Node.leaves g.M.Node.last) c.args.nodes.now)) (resumes ∷ []) (g.O.Sink.held c.args.sink.now) (g.O.Sink.held c.args.sink.now) refl)
+
+pub returns-in_err-resume-clause-cause : goal.returns-in_err-resume-clause-cause
+returns-in_err-resume-clause-cause g c =
+    let p = err_from_is_err_and c.from_residual.result c.from_residual.ensures.1 in
+    stops_memory _ _ (omega arith) p.0 p.2 _ p.1
+
+pub returns-clause-done : goal.returns-clause-done
+returns-clause-done g c = on_ok_map c.put_since.result _ _ (λ all. reached_act (running c.args.sessions.now (lists_now (meanings g.N.Node.named g.N.Node.trail g.N.Node.explains g.N.Node.leaves g.N.Node.last) (meanings g.M.Node.named g.M.Node.trail g.M.Node.explains g.M.Node.leaves g.M.Node.last) c.args.nodes.now)) (running c.resume.new.sessions (lists_now (meanings g.N.Node.named g.N.Node.trail g.N.Node.explains g.N.Node.leaves g.N.Node.last) (meanings g.M.Node.named g.M.Node.trail g.M.Node.explains g.M.Node.leaves g.M.Node.last) c.resume.new.nodes)) resumes (flat_map (text_of c.resume.new.sessions.names.items) (drop (length c.transcript-place.result.now) c.resume.new.sessions.lines.items)) (g.O.Sink.held c.args.sink.now) (g.O.Sink.held c.put_since.new.sink) (c.in_ok-resume.ensures.done, (prints_since (running c.args.sessions.now (lists_now (meanings g.N.Node.named g.N.Node.trail g.N.Node.explains g.N.Node.leaves g.N.Node.last) (meanings g.M.Node.named g.M.Node.trail g.M.Node.explains g.M.Node.leaves g.M.Node.last) c.args.nodes.now)) (running c.resume.new.sessions (lists_now (meanings g.N.Node.named g.N.Node.trail g.N.Node.explains g.N.Node.leaves g.N.Node.last) (meanings g.M.Node.named g.M.Node.trail g.M.Node.explains g.M.Node.leaves g.M.Node.last) c.resume.new.nodes)) (length c.transcript-place.result.now) (ap length c.transcript-place.ensures) c.resume.ensures.adds)) all) c.put_since.ensures.all
+
+pub returns-clause-part : goal.returns-clause-part
+returns-clause-part g c = on_err_map c.put_since.result _ _ (λ puts. halted_act (running c.args.sessions.now (lists_now (meanings g.N.Node.named g.N.Node.trail g.N.Node.explains g.N.Node.leaves g.N.Node.last) (meanings g.M.Node.named g.M.Node.trail g.M.Node.explains g.M.Node.leaves g.M.Node.last) c.args.nodes.now)) (running c.resume.new.sessions (lists_now (meanings g.N.Node.named g.N.Node.trail g.N.Node.explains g.N.Node.leaves g.N.Node.last) (meanings g.M.Node.named g.M.Node.trail g.M.Node.explains g.M.Node.leaves g.M.Node.last) c.resume.new.nodes)) resumes (flat_map (text_of c.resume.new.sessions.names.items) (drop (length c.transcript-place.result.now) c.resume.new.sessions.lines.items)) (g.O.Sink.held c.args.sink.now) (g.O.Sink.held c.put_since.new.sink) (c.in_ok-resume.ensures.done, (prints_since (running c.args.sessions.now (lists_now (meanings g.N.Node.named g.N.Node.trail g.N.Node.explains g.N.Node.leaves g.N.Node.last) (meanings g.M.Node.named g.M.Node.trail g.M.Node.explains g.M.Node.leaves g.M.Node.last) c.args.nodes.now)) (running c.resume.new.sessions (lists_now (meanings g.N.Node.named g.N.Node.trail g.N.Node.explains g.N.Node.leaves g.N.Node.last) (meanings g.M.Node.named g.M.Node.trail g.M.Node.explains g.M.Node.leaves g.M.Node.last) c.resume.new.nodes)) (length c.transcript-place.result.now) (ap length c.transcript-place.ensures) c.resume.ensures.adds)) puts) c.put_since.ensures.part
