@@ -53,7 +53,7 @@ pub does_effect : (back_ends : ℕ) (s : State) (spent : ℕ) (st : Statement) (
 unfolding does
 does_effect back_ends s spent st e h = ap (settled s spent) h
 
-does_full : (back_ends : ℕ) (s : State) (spent : ℕ) (st : Statement) → does back_ends s spent true st ≡ reads s reply.TooMuch
+pub does_full : (back_ends : ℕ) (s : State) (spent : ℕ) (st : Statement) → does back_ends s spent true st ≡ reads s reply.TooMuch
 unfolding does
 does_full back_ends s spent st = refl
 

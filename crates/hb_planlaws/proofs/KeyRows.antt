@@ -93,7 +93,7 @@ one_of_two p q x y o back (inr none) h =
     ap (λ z. values_of (stored_at p x ++ (stored_at q z ++ []))) none ∙ first_only p x o back (ap (λ z. option_or x (option_or z None)) (sym none) ∙ h)
 
 module _ (family : Family) (t : Table) (p : Spread) (is : IsTable t) (rows : TableRows family t p) (key : ℤ) where
-  readable : (row : List Value) → row_of t key ≡ Some row → values_in (row_bytes row) ≡ Some row
+  pub readable : (row : List Value) → row_of t key ≡ Some row → values_in (row_bytes row) ≡ Some row
   readable row e = row_back t row is (in_Each (FitsAll t.columns) row t.rows (find_holds (has_key t key) t.rows row e).1 is.rows_fit)
 
   -- what is read along a route is the row of the key

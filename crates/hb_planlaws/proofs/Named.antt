@@ -43,7 +43,7 @@ absorb false false false false = refl
 step : (b a l y z : Bool) → (a || z) ≡ (l || z) → ((b || a) || (y || z)) ≡ ((b || l) || (y || z))
 step b a l y z same = absorb b a y z ∙ ap (λ (x : Bool). b || (x || (y || z))) same ∙ sym (absorb b l y z)
 
-all_twins_more : {A : Type 0} (alike : A → A → Bool) (x : A) (xs : List A) → has_twins alike (x ∷ xs) ≡ (list_any (alike x) xs || has_twins alike xs)
+pub all_twins_more : {A : Type 0} (alike : A → A → Bool) (x : A) (xs : List A) → has_twins alike (x ∷ xs) ≡ (list_any (alike x) xs || has_twins alike xs)
 all_twins_more alike x [] = refl
 all_twins_more alike x (y ∷ ys) = step (alike x y) _ (list_any (alike x) ys) _ (has_twins alike ys) (all_twins_more alike x ys)
 
@@ -77,7 +77,7 @@ module _ {A : Type 0} (name_of : A → List ℕ) where
       let n = neither (list_any (λ b. bytes_eq (name_of x) (name_of b)) xs) (has_twins (λ a b. bytes_eq (name_of a) (name_of b)) xs) (sym (twins_more x xs) ∙ e) in
       (unlike x xs n.0, names_apart xs n.1)
 
-is_false : (b : Bool) → IsTrue (not b) → b ≡ false
+pub is_false : (b : Bool) → IsTrue (not b) → b ≡ false
 is_false true h = absurd (false≢true h)
 is_false false h = refl
 

@@ -38,7 +38,7 @@ abbrev If : Bool → Option (List ℕ) → Option (List ℕ) → Option (List �
 If b x y = cond b x y
 
 -- ascending rows are, under a path, others that ascend there and stand at the same places
-under_same : (p : Path) (xs ys : List Stored) → AreAscending xs → AreAscending (rows_under p ys)
+pub under_same : (p : Path) (xs ys : List Stored) → AreAscending xs → AreAscending (rows_under p ys)
     → ((x : Place) → is_under p x ≡ true → lookup x xs ≡ lookup x ys) → rows_under p xs ≡ rows_under p ys
 under_same p xs ys a b same = rows_same (rows_under p xs) (rows_under p ys) (under_ascends p xs a) b each
   where
@@ -68,7 +68,7 @@ key_less n m h = sym (int_cmp_is (pos n) (pos m) Less (let l : pos n <ℤ pos m 
 abbrev place_of : ℕ → ℕ → ℕ → Place
 place_of space group key = record { space = dictionary_space space; group = group; key = pos key }
 
-keys_less : (space group n m : ℕ) → n < m → place_cmp (place_of space group n) (place_of space group m) ≡ Less
+pub keys_less : (space group n m : ℕ) → n < m → place_cmp (place_of space group n) (place_of space group m) ≡ Less
 keys_less space group n m h = rw (nat_same space, nat_same group, key_less n m h) refl
 
 pub head_is : (t : Spread) (first : ℕ) (spreads : List Spread) → GoUp first (t ∷ spreads) → t.number ≡ first
@@ -167,11 +167,11 @@ left_true true b e = refl
 left_true false b e = e
 
 module _ (back_ends : ℕ) (family : Family) (s : State) (sys : Sys back_ends family s) where
-  ds_ascends : (fs : Family) → Each AreAscending fs → AreAscending (rows_of ds fs)
+  pub ds_ascends : (fs : Family) → Each AreAscending fs → AreAscending (rows_of ds fs)
   ds_ascends [] e = tt
   ds_ascends (rows ∷ more) e = e.0
 
-  of_space : (space : ℕ) (x : Place) → same_space (dictionary_space space) x.space ≡ true → lookup x (rows_of ds family) ≡ lookup x (rows_in_space s space)
+  pub of_space : (space : ℕ) (x : Place) → same_space (dictionary_space space) x.space ≡ true → lookup x (rows_of ds family) ≡ lookup x (rows_in_space s space)
   of_space space x t =
       let e : space ≡ x.space.table = ap (λ (z : Space). z.table) (same_space-eq (dictionary_space space) x.space t) in
       sys.dictionary_rows x ∙ by_space s x ∙ ap (λ n. lookup x (rows_in_space s n)) (sym e)

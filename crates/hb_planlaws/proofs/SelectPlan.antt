@@ -130,7 +130,7 @@ refusal_other t w pd r e =
 
 -- ---- SELECT of one key
 
-key_there : (o : Option ℤ) → IsSome o → (key : ℤ) × (o ≡ Some key)
+pub key_there : (o : Option ℤ) → IsSome o → (key : ℤ) × (o ≡ Some key)
 key_there None h = absurd (false≢true h)
 key_there (Some key) h = (key, refl)
 

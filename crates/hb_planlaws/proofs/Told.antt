@@ -45,7 +45,7 @@ middle true true c h = refl
 middle true false c h = absurd (false≢true h)
 middle false b c h = absurd (false≢true h)
 
-name_short : (name : List ℕ) → IsName name → length name ≤ 30
+pub name_short : (name : List ℕ) → IsName name → length name ≤ 30
 name_short [] h = absurd (false≢true h)
 name_short (b ∷ bs) h =
     let f : IsTrue (nat_le (length bs) 29) = middle _ _ _ h in
@@ -160,12 +160,12 @@ each_at P [] k d each lt = absurd (omega (arith, lt))
 each_at P (x ∷ xs) zero d each lt = each.0
 each_at P (x ∷ xs) (suc k) d each lt = each_at P xs k d each.1 (omega (arith, lt))
 
-each_got : (P : ℕ → Type 0) (xs : List ℕ) (k b : ℕ) → Each P xs → slice_get xs k ≡ Some b → P b
+pub each_got : (P : ℕ → Type 0) (xs : List ℕ) (k b : ℕ) → Each P xs → slice_get xs k ≡ Some b → P b
 each_got P [] k b each e = cc
 each_got P (x ∷ xs) zero b each e = let same : x ≡ b = cc in subst P same each.0
 each_got P (x ∷ xs) (suc k) b each e = each_got P xs k b each.1 e
 
-contained : (P : ℕ → Type 0) (xs : List ℕ) (a : ℕ) → Each P xs → Contains xs a → P a
+pub contained : (P : ℕ → Type 0) (xs : List ℕ) (a : ℕ) → Each P xs → Contains xs a → P a
 contained P xs a each c = subst P c.2 (each_at P xs c.0 a each c.1)
 
 entry_sited : (members : List ℕ) (e : Entry) → Each Sited members → IsEntry members (slice_get members (length members - 1)) e → AreAreas e

@@ -40,7 +40,7 @@ use Rattle.hb_planlaws.proofs.KeyRows.{found}
 
 -- ---- the entry of a key's group
 
-numbered : (first : ℕ) (ss : List Spread) (p : Spread) → GoUp first ss → IsIn p ss → find (λ t. p.number == t.number) ss ≡ Some p
+pub numbered : (first : ℕ) (ss : List Spread) (p : Spread) → GoUp first ss → IsIn p ss → find (λ t. p.number == t.number) ss ≡ Some p
 numbered first [] p e i = absurd i
 numbered first (u ∷ ss) p e (inl is) =
     subst (λ (x : Spread). find (λ t. x.number == t.number) (u ∷ ss) ≡ Some x) is (rw ((Decides-eqb u.number u.number).1 refl) refl)

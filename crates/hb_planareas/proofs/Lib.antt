@@ -1,0 +1,3 @@
+pub mod AreaRows
+pub mod AreaStates
+pub mod AreaPlan

@@ -1,0 +1,4 @@
+pub mod Bears
+pub mod RowLocks
+pub mod DefineLocks
+pub mod AllLocks

@@ -1,0 +1,9 @@
+pub mod Puts
+pub mod Longer
+pub mod NextState
+pub mod NextSystem
+pub mod NewTable
+pub mod NewSpread
+pub mod Scanned
+pub mod WritesEnd
+pub mod TablePlan

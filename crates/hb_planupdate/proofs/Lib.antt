@@ -1,0 +1,3 @@
+pub mod Assigns
+pub mod UpdateRefusals
+pub mod UpdatePlan

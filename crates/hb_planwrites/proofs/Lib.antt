@@ -1,0 +1,17 @@
+pub mod Changed
+pub mod Systems
+pub mod KeyWrites
+pub mod Marks
+pub mod Closing
+pub mod RowsPut
+pub mod InsertPlan
+pub mod ListWrites
+pub mod Gather
+pub mod Tabled
+pub mod Seen
+pub mod Sorting
+pub mod AllRows
+pub mod Scanning
+pub mod SelectRows
+pub mod Chosen
+pub mod DeletePlan
