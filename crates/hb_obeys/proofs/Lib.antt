@@ -1,0 +1,12 @@
+pub mod Bits
+pub mod Members
+pub mod Standing
+pub mod Permits
+pub mod Obeying
+pub mod Planning
+pub mod Statements
+pub mod Endings
+pub mod Opening
+pub mod Sessions
+pub mod Settling
+pub mod Moving

@@ -1,0 +1,4 @@
+pub mod SessionCalls
+pub mod Courses
+pub mod Unwanted
+pub mod Lives
