@@ -264,8 +264,8 @@ faithful =
       undecided = none_decides;
       does_rightly = λ h. absurd (false≢true h);
       undone = λ h. inr (inr (inr (inl refl)));
-      locks = (tt, (tt, (tt, (tt, (tt, tt)))));
-      sourced = record { shown = tt; written = (tt, (tt, (tt, (tt, (tt, tt))))) };
+      locks = λ asked. (tt, (tt, (tt, (tt, (tt, tt)))));
+      sourced = λ asked named. record { shown = tt; written = (tt, (tt, (tt, (tt, (tt, tt))))) };
     }
 
 right : IsRightTxn 1 began

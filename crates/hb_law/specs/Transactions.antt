@@ -12,6 +12,7 @@ use Rattle.hb_model.specs.declared.reply.Reply.TheVariants as reply
 use Rattle.hb_model.specs.declared.statement.Statement.{Statement}
 use Rattle.hb_model.specs.declared.statement.Statement.TheVariants as statement
 use Rattle.hb_model.specs.Answers.{of_rows, HasAsked, is_decide}
+use Rattle.hb_model.specs.Asked.{AreWhereAsked}
 use Rattle.hb_model.specs.Faithful.{Faithful}
 use Rattle.hb_model.specs.Items.{Item, Doing, sql, turn, tending, calls_of, Spent, spending, nothing_spent}
 use Rattle.hb_model.specs.Locking.{LocksByTable}
@@ -109,11 +110,11 @@ CommitTells calls (Some (reply.OutcomeUnknown o)) = MayBeDecided calls
 CommitTells calls (Some r) = ¬ (MayBeDecided calls)
 
 -- A COMMIT neither reads nor writes a row, and tells what was decided. Any other statement is faithful; while it has no
--- line it has decided nothing, and its locks are in the table of locks.
+-- line it has decided nothing, and its locks are in the table of locks where its answers are a system's.
 abbrev pub IsRightStatement : ℕ → Spent → Statement → List Call → Option Reply → Type 0
 IsRightStatement back_ends spent statement.Commit calls r = (of_rows calls ≡ []) × CommitTells calls r
 IsRightStatement back_ends spent st calls (Some r) = (full : Bool) × Faithful back_ends spent full st calls r
-IsRightStatement back_ends spent st calls None = (¬ (HasAsked is_decide calls)) × LocksByTable st calls
+IsRightStatement back_ends spent st calls None = (¬ (HasAsked is_decide calls)) × (AreWhereAsked calls → LocksByTable st calls)
 
 abbrev pub IsRightItem : ℕ → Spent → Item → Type 0
 IsRightItem back_ends spent i = of i.doing

@@ -3,6 +3,7 @@ use Rattle.std.specs.Prelude.{◌≡◌, ℕ, ◌+◌, ◌≤◌, ◌<◌, Bool,
 use Rattle.hb_types.specs.declared.trail.Call.{Call}
 use Rattle.hb_model.specs.declared.reply.Reply.{Reply}
 use Rattle.hb_model.specs.declared.statement.Statement.{Statement}
+use Rattle.hb_model.specs.Asked.{AreWhereAsked, NameAreas}
 use Rattle.hb_model.specs.Answers.{AnswersOf, afters, bytes_in, grants_in, HasAsked, is_decide, is_undoing}
 use Rattle.hb_model.specs.Does.{does, effect, is_accepted}
 use Rattle.hb_model.specs.Families.{Family}
@@ -32,10 +33,10 @@ DoesRightly back_ends spent full st calls r =
 
 -- A statement's calls and reply are faithful: it decides nothing; it does what the statement does, unless its reply is an
 -- outside one; where it says that the transaction was rolled back, it asked for that; its locks are in the table of locks;
--- and its rows come from those that it was answered.
+-- and its rows come from those that it was answered. The last two are said of answers as a system's servers give them.
 pub record Faithful (back_ends : ℕ) (spent : Spent) (full : Bool) (st : Statement) (calls : List Call) (r : Reply) : Type 0 where
   pub undecided : ¬ (HasAsked is_decide calls)
   pub does_rightly : IsTrue (not (is_outside r)) → DoesRightly back_ends spent full st calls r
   pub undone : IsTrue (says_undone r) → HasAsked is_undoing calls
-  pub locks : LocksByTable st calls
-  pub sourced : Sourced st calls r
+  pub locks : AreWhereAsked calls → LocksByTable st calls
+  pub sourced : AreWhereAsked calls → NameAreas calls → Sourced st calls r
