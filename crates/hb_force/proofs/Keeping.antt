@@ -25,6 +25,7 @@ use Rattle.hb_disks.proofs.Fold.{redo_from-append}
 use Rattle.hb_store.specs.Meanings.{changes_in, count_at, room_for}
 use Rattle.hb_runs.specs.Server.{Branch, SState, now, IsLive, IsInDoubt}
 use Rattle.hb_runs.specs.ServerEffects.{prepared, committed, aborted, happens, vote_of}
+use Rattle.hb_runs.specs.ServerRuns.{Turns}
 use Rattle.hb_engine.specs.declared.engine.Engine.{Engine}
 use Rattle.hb_engine.specs.Turned.{StandsFor, Turned}
 use Rattle.hb_requests.specs.Forced.{RecordsNone, Forces}
@@ -86,57 +87,64 @@ aborted_sound s tx sound =
 
 module _ {D S : Type 0} (rows : S → List Stored) (room : S → Place → ℕ) (old : Running D S) (k : Kept rows room old) where
   -- the store has more room, and all else is as it was
-  pub kept_store : (new : Running D S) → new.engine ≡ old.engine → new.log.end ≡ old.log.end → rows new.store ≡ rows old.store → ((place : Place) → room old.store place ≤ room new.store place) → Kept rows room new
-  kept_store new engine end same more = record {
-    state = k.state;
-    stands = subst (λ (l : List Stored). StandsFor new.engine l k.state) (sym same) (subst (λ (e : Engine). StandsFor e (rows old.store) k.state) (sym engine) k.stands);
-    sound = k.sound;
-    end_is = end ∙ k.end_is;
-    has_room = let r = k.has_room in omega (arith, r, end);
-    rooms = λ place. let r = k.rooms place in let m = more place in omega (arith, r, m);
-  }
+  pub kept_store : (new : Running D S) → new.engine ≡ old.engine → new.log.end ≡ old.log.end → rows new.store ≡ rows old.store → ((place : Place) → room old.store place ≤ room new.store place) → (n : Kept rows room new) × (k.state ≡ n.state)
+  kept_store new engine end same more = (
+    record {
+      state = k.state;
+      stands = subst (λ (l : List Stored). StandsFor new.engine l k.state) (sym same) (subst (λ (e : Engine). StandsFor e (rows old.store) k.state) (sym engine) k.stands);
+      sound = k.sound;
+      end_is = end ∙ k.end_is;
+      has_room = let r = k.has_room in omega (arith, r, end);
+      rooms = λ place. let r = k.rooms place in let m = more place in omega (arith, r, m);
+    },
+    refl,
+  )
 
   -- a request that records nothing
-  pub kept_turn : (new : Running D S) (q : Request) (a : Answer) → IsRequest q → HasPaths q → RecordsNone old.engine q a → Turned k.state q a (λ t. StandsFor new.engine (rows old.store) t) → new.log ≡ old.log → new.store ≡ old.store → Kept rows room new
+  pub kept_turn : (new : Running D S) (q : Request) (a : Answer) → IsRequest q → HasPaths q → RecordsNone old.engine q a → Turned k.state q a (λ t. StandsFor new.engine (rows old.store) t) → new.log ≡ old.log → new.store ≡ old.store → (n : Kept rows room new) × Turns k.state (record { request = q; answer = a }) n.state
   kept_turn new q a well lies none t log store =
       let quiet = quiet_causes old.engine (rows old.store) k.state t.state q a t.turn.effects k.stands well lies none t.turn.causes t.turn.right t.turn.steps in
       let stays = steps_stay k.state t.state t.turn.effects quiet k.sound t.turn.steps in
       let same : now t.state ≡ now k.state = ap (λ (b : Redone). redo_from b t.state.log) stays.base ∙ ap (λ (l : List LogItem). redo_from k.state.base l) stays.log in
-      let end : new.log.end ≡ old.log.end = ap (λ (l : Log D). l.end) log in
-      record {
-        state = t.state;
-        stands = subst (λ (x : S). StandsFor new.engine (rows x) t.state) (sym store) t.at;
-        sound = stays.sound;
-        end_is = end ∙ k.end_is ∙ ap (λ (n : ℕ). end_behind n k.state.log) (sym stays.place) ∙ ap (λ (l : List LogItem). end_behind t.state.place l) (sym stays.log);
-        has_room = let r = k.has_room in let d = ap (λ (x : Redone). length x.doubts) same in omega (arith, r, end, d);
-        rooms = λ place. subst (λ (x : S). room_for place (now t.state).doubts ≤ room x place) (sym store) (let r = k.rooms place in let d = ap (λ (x : Redone). room_for place x.doubts) same in omega (arith, r, d));
-      }
+      let end : new.log.end ≡ old.log.end = ap (λ (l : Log D). l.end) log in (
+        record {
+          state = t.state;
+          stands = subst (λ (x : S). StandsFor new.engine (rows x) t.state) (sym store) t.at;
+          sound = stays.sound;
+          end_is = end ∙ k.end_is ∙ ap (λ (n : ℕ). end_behind n k.state.log) (sym stays.place) ∙ ap (λ (l : List LogItem). end_behind t.state.place l) (sym stays.log);
+          has_room = let r = k.has_room in let d = ap (λ (x : Redone). length x.doubts) same in omega (arith, r, end, d);
+          rooms = λ place. subst (λ (x : S). room_for place (now t.state).doubts ≤ room x place) (sym store) (let r = k.rooms place in let d = ap (λ (x : Redone). room_for place x.doubts) same in omega (arith, r, d));
+        },
+        t.turn,
+      )
 
   -- once a vote stands
   pub kept_voted : (new : Running D S) (tx : Tx) (b : Branch) (vote : LogItem) → IsLive k.state tx.0 b → vote ≡ vote_of k.state b → HasPlace old.log.end (length (now k.state).doubts) vote
       → StandsFor new.engine (rows new.store) (happens k.state (prepared tx.0)) → new.log.end ≡ old.log.end + record_length vote
-      → ((place : Place) → room new.store place ≡ room old.store place + count_at place (changes_in vote)) → Kept rows room new
+      → ((place : Place) → room new.store place ≡ room old.store place + count_at place (changes_in vote)) → (m : Kept rows room new) × (happens k.state (prepared tx.0) ≡ m.state)
   kept_voted new tx b vote live is place stands end more =
       let log = voted_log old.engine (rows old.store) k.state tx b k.stands live vote is in
-      let same = voted_now old.engine (rows old.store) k.state tx b k.stands live in
-      record {
-        state = happens k.state (prepared tx.0);
-        stands = stands;
-        sound = voted_sound old.engine (rows old.store) k.state tx b k.stands live k.sound;
-        end_is = end ∙ sym (ap (λ (l : List LogItem). end_behind k.state.place l) log ∙ end_more k.state.place old.log.end k.state.log vote k.end_is);
-        has_room =
-            let d : length (now (happens k.state (prepared tx.0))).doubts ≡ length ((now k.state).doubts ++ record { tx = b.tx; floor = (now k.state).floor; locks = b.locks; changes = normal b.own } ∷ []) = ap (λ (x : Redone). length x.doubts) same in
-            let one = length-append (now k.state).doubts (record { tx = b.tx; floor = (now k.state).floor; locks = b.locks; changes = normal b.own } ∷ []) in
-            let fits = place.0 in
-            omega (arith, d, one, fits, end);
-        rooms = λ p.
-            let d : room_for p (now (happens k.state (prepared tx.0))).doubts ≡ room_for p ((now k.state).doubts ++ record { tx = b.tx; floor = (now k.state).floor; locks = b.locks; changes = normal b.own } ∷ []) = ap (λ (x : Redone). room_for p x.doubts) same in
-            let one = room_for-more p (now k.state).doubts (record { tx = b.tx; floor = (now k.state).floor; locks = b.locks; changes = normal b.own }) in
-            let r = k.rooms p in
-            let m = more p in
-            let c : count_at p (changes_in vote) ≡ count_at p (normal b.own) = ap (λ (i : LogItem). count_at p (changes_in i)) is in
-            omega (arith, d, one, r, m, c);
-      }
+      let same = voted_now old.engine (rows old.store) k.state tx b k.stands live in (
+        record {
+          state = happens k.state (prepared tx.0);
+          stands = stands;
+          sound = voted_sound old.engine (rows old.store) k.state tx b k.stands live k.sound;
+          end_is = end ∙ sym (ap (λ (l : List LogItem). end_behind k.state.place l) log ∙ end_more k.state.place old.log.end k.state.log vote k.end_is);
+          has_room =
+              let d : length (now (happens k.state (prepared tx.0))).doubts ≡ length ((now k.state).doubts ++ record { tx = b.tx; floor = (now k.state).floor; locks = b.locks; changes = normal b.own } ∷ []) = ap (λ (x : Redone). length x.doubts) same in
+              let one = length-append (now k.state).doubts (record { tx = b.tx; floor = (now k.state).floor; locks = b.locks; changes = normal b.own } ∷ []) in
+              let fits = place.0 in
+              omega (arith, d, one, fits, end);
+          rooms = λ p.
+              let d : room_for p (now (happens k.state (prepared tx.0))).doubts ≡ room_for p ((now k.state).doubts ++ record { tx = b.tx; floor = (now k.state).floor; locks = b.locks; changes = normal b.own } ∷ []) = ap (λ (x : Redone). room_for p x.doubts) same in
+              let one = room_for-more p (now k.state).doubts (record { tx = b.tx; floor = (now k.state).floor; locks = b.locks; changes = normal b.own }) in
+              let r = k.rooms p in
+              let m = more p in
+              let c : count_at p (changes_in vote) ≡ count_at p (normal b.own) = ap (λ (i : LogItem). count_at p (changes_in i)) is in
+              omega (arith, d, one, r, m, c);
+        },
+        refl,
+      )
 
   -- room for an end, and the changes that are taken out of the store's room
   pub end_fits : (tx floor : ℕ) → IsInDoubt k.state tx floor → length (without_tx tx (now k.state).doubts) + 1 ≤ length (now k.state).doubts
@@ -157,42 +165,46 @@ module _ {D S : Type 0} (rows : S → List Stored) (room : S → Place → ℕ) 
   -- once a Commit stands and its changes are made
   pub kept_committed : (new : Running D S) (tx : Tx) (n : Number) (floor : ℕ) (changes : List Change) → IsNumber n.0 → IsInDoubt k.state tx.0 floor → changes_of tx.0 (now k.state).doubts ≡ changes
       → StandsFor new.engine (rows new.store) (happens k.state (committed tx.0 n.0)) → new.log.end ≡ old.log.end + 22
-      → ((place : Place) → room old.store place ≡ room new.store place + count_at place changes) → Kept rows room new
+      → ((place : Place) → room old.store place ≡ room new.store place + count_at place changes) → (m : Kept rows room new) × (happens k.state (committed tx.0 n.0) ≡ m.state)
   kept_committed new tx n floor changes is doubt are stands end gone =
       let same = ended_now k.state (item.Commit tx n) in
-      let one = end_fits tx.0 floor doubt in
-      record {
-        state = happens k.state (committed tx.0 n.0);
-        stands = stands;
-        sound = committed_sound k.state tx.0 n.0 is k.sound;
-        end_is = end ∙ sym (end_more k.state.place old.log.end k.state.log (item.Commit tx n) k.end_is);
-        has_room =
-            let d : length (now (happens k.state (committed tx.0 n.0))).doubts ≡ length (without_tx tx.0 (now k.state).doubts) = ap (λ (x : Redone). length x.doubts) same in
-            let r = k.has_room in omega (arith, d, one, r, end);
-        rooms = λ p.
-            let d : room_for p (now (happens k.state (committed tx.0 n.0))).doubts ≡ room_for p (without_tx tx.0 (now k.state).doubts) = ap (λ (x : Redone). room_for p x.doubts) same in
-            let l = rooms_left tx.0 changes new p are (gone p) in omega (arith, d, l);
-      }
+      let one = end_fits tx.0 floor doubt in (
+        record {
+          state = happens k.state (committed tx.0 n.0);
+          stands = stands;
+          sound = committed_sound k.state tx.0 n.0 is k.sound;
+          end_is = end ∙ sym (end_more k.state.place old.log.end k.state.log (item.Commit tx n) k.end_is);
+          has_room =
+              let d : length (now (happens k.state (committed tx.0 n.0))).doubts ≡ length (without_tx tx.0 (now k.state).doubts) = ap (λ (x : Redone). length x.doubts) same in
+              let r = k.has_room in omega (arith, d, one, r, end);
+          rooms = λ p.
+              let d : room_for p (now (happens k.state (committed tx.0 n.0))).doubts ≡ room_for p (without_tx tx.0 (now k.state).doubts) = ap (λ (x : Redone). room_for p x.doubts) same in
+              let l = rooms_left tx.0 changes new p are (gone p) in omega (arith, d, l);
+        },
+        refl,
+      )
 
   -- once an Abort stands
   pub kept_aborted : (new : Running D S) (tx : Tx) (floor : ℕ) (changes : List Change) → IsInDoubt k.state tx.0 floor → changes_of tx.0 (now k.state).doubts ≡ changes
       → StandsFor new.engine (rows new.store) (happens k.state (aborted tx.0)) → new.log.end ≡ old.log.end + 14
-      → ((place : Place) → room old.store place ≡ room new.store place + count_at place changes) → Kept rows room new
+      → ((place : Place) → room old.store place ≡ room new.store place + count_at place changes) → (m : Kept rows room new) × (happens k.state (aborted tx.0) ≡ m.state)
   kept_aborted new tx floor changes doubt are stands end gone =
       let same = ended_now k.state (item.Abort tx) in
-      let one = end_fits tx.0 floor doubt in
-      record {
-        state = happens k.state (aborted tx.0);
-        stands = stands;
-        sound = aborted_sound k.state tx.0 k.sound;
-        end_is = end ∙ sym (end_more k.state.place old.log.end k.state.log (item.Abort tx) k.end_is);
-        has_room =
-            let d : length (now (happens k.state (aborted tx.0))).doubts ≡ length (without_tx tx.0 (now k.state).doubts) = ap (λ (x : Redone). length x.doubts) same in
-            let r = k.has_room in omega (arith, d, one, r, end);
-        rooms = λ p.
-            let d : room_for p (now (happens k.state (aborted tx.0))).doubts ≡ room_for p (without_tx tx.0 (now k.state).doubts) = ap (λ (x : Redone). room_for p x.doubts) same in
-            let l = rooms_left tx.0 changes new p are (gone p) in omega (arith, d, l);
-      }
+      let one = end_fits tx.0 floor doubt in (
+        record {
+          state = happens k.state (aborted tx.0);
+          stands = stands;
+          sound = aborted_sound k.state tx.0 k.sound;
+          end_is = end ∙ sym (end_more k.state.place old.log.end k.state.log (item.Abort tx) k.end_is);
+          has_room =
+              let d : length (now (happens k.state (aborted tx.0))).doubts ≡ length (without_tx tx.0 (now k.state).doubts) = ap (λ (x : Redone). length x.doubts) same in
+              let r = k.has_room in omega (arith, d, one, r, end);
+          rooms = λ p.
+              let d : room_for p (now (happens k.state (aborted tx.0))).doubts ≡ room_for p (without_tx tx.0 (now k.state).doubts) = ap (λ (x : Redone). room_for p x.doubts) same in
+              let l = rooms_left tx.0 changes new p are (gone p) in omega (arith, d, l);
+        },
+        refl,
+      )
 
 -- ---- a request that records nothing, in any state
 

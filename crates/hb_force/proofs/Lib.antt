@@ -3,6 +3,7 @@ pub mod Sounding
 pub mod Causing
 pub mod Rooming
 pub mod Turning
+pub mod Following
 pub mod Keeping
 pub mod Measuring
 pub mod Making

@@ -4,7 +4,7 @@ ghost use Rattle.hb_edge.specs.Causes.{HasCause};
 ghost use Rattle.hb_types.specs.Numbers.{IsNumber};
 ghost use Rattle.hb_requests.specs.Forced.{Commits};
 ghost use Rattle.hb_store.specs.Meanings.{Stays};
-ghost use Rattle.hb_force.specs.Kept.{Keeps};
+ghost use Rattle.hb_force.specs.Kept.{Follows, Keeps};
 ghost use Rattle.hb_force.specs.Standing.{Turns, Faults, LeavesBetween, is_recorded};
 
 use crate::appending::append;
@@ -34,6 +34,7 @@ impl<D: Disk, S: Store> Running<D, S> {
         ensures leaves { LeavesBetween D.content D.left D.last S.rows self.old clock.old self.new (Request.Commit tx number) }
         ensures unrecorded { IfOk result (λ a. is_recorded (Request.Commit tx number) a ≡ false → self.new.log ≡ self.old.log) }
         ensures kept { OnOk result (Keeps S.rows S.room self.new) }
+        ensures follows { IfOk result (λ a. Follows S.rows S.room self.old self.new (Request.Commit tx number) a) }
         ensures stays { Stays S.keeps S.staged self.old.store self.new.store }
         ensures done { IfOk result (λ a. a ≡ Answer.Done) }
         ensures is_open { OnOk result (self.new.log.closed ≡ false) }

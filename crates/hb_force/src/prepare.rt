@@ -9,7 +9,7 @@ ghost use Rattle.hb_engine.specs.Ends.{IsVote};
 ghost use Rattle.hb_engine.specs.Turned.{StandsFor};
 ghost use Rattle.hb_requests.specs.Forced.{Votes};
 ghost use Rattle.hb_store.specs.Meanings.{changes_in, Stays};
-ghost use Rattle.hb_force.specs.Kept.{Keeps};
+ghost use Rattle.hb_force.specs.Kept.{Follows, Keeps};
 ghost use Rattle.hb_force.specs.Lengths.{HasPlace};
 ghost use Rattle.hb_force.specs.Standing.{Turns, Faults, LeavesBetween, is_quiet, is_recorded};
 
@@ -48,6 +48,7 @@ impl<D: Disk, S: Store> Running<D, S> {
         ensures leaves { LeavesBetween D.content D.left D.last S.rows self.old clock.old self.new (Request.Prepare tx) }
         ensures unrecorded { IfOk result (λ a. is_recorded (Request.Prepare tx) a ≡ false → self.new.log ≡ self.old.log) }
         ensures kept { OnOk result (Keeps S.rows S.room self.new) }
+        ensures follows { IfOk result (λ a. Follows S.rows S.room self.old self.new (Request.Prepare tx) a) }
         ensures stays { Stays S.keeps S.staged self.old.store self.new.store }
         ensures well_formed { IfOk result IsAnswer }
         ensures quiet { IfOk result (λ a. is_quiet a ≡ true) }
@@ -89,6 +90,7 @@ impl<D: Disk, S: Store> Running<D, S> {
         ensures leaves { LeavesBetween D.content D.left D.last S.rows self.old clock.old self.new (Request.Prepare tx) }
         ensures unrecorded { IfOk result (λ a. is_recorded (Request.Prepare tx) a ≡ false → self.new.log ≡ self.old.log) }
         ensures kept { OnOk result (Keeps S.rows S.room self.new) }
+        ensures follows { IfOk result (λ a. Follows S.rows S.room self.old self.new (Request.Prepare tx) a) }
         ensures stays { Stays S.keeps S.staged self.old.store self.new.store }
         ensures well_formed { IfOk result IsAnswer }
         ensures quiet { IfOk result (λ a. is_quiet a ≡ true) }

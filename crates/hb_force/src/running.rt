@@ -5,7 +5,7 @@ ghost use Rattle.hb_types.specs.Calls.{IsAnswer, IsRequest};
 ghost use Rattle.hb_types.specs.Places.{IsPath};
 ghost use Rattle.hb_requests.specs.Forced.{Forces};
 ghost use Rattle.hb_store.specs.Meanings.{Stays};
-ghost use Rattle.hb_force.specs.Kept.{Keeps};
+ghost use Rattle.hb_force.specs.Kept.{Follows, Keeps};
 ghost use Rattle.hb_force.specs.Quiet.{HasPaths, records_none};
 ghost use Rattle.hb_force.specs.Standing.{Turns, Faults, LeavesBetween, is_quiet, is_recorded};
 
@@ -57,6 +57,7 @@ impl<D: Disk, S: Store> Running<D, S> {
         ensures leaves { LeavesBetween D.content D.left D.last S.rows self.old clock.old self.new request.now }
         ensures unrecorded { IfOk result (λ a. is_recorded request.now a ≡ false → self.new.log ≡ self.old.log) }
         ensures kept { OnOk result (Keeps S.rows S.room self.new) }
+        ensures follows { IfOk result (λ a. Follows S.rows S.room self.old self.new request.now a) }
         ensures stays { Stays S.keeps S.staged self.old.store self.new.store }
         ensures well_formed { IfOk result IsAnswer }
         ensures quiet { IfOk result (λ a. is_quiet a ≡ true) }
@@ -104,6 +105,7 @@ impl<D: Disk, S: Store> Running<D, S> {
         ensures leaves { LeavesBetween D.content D.left D.last S.rows self.old clock.old self.new request.now }
         ensures unrecorded { IfOk result (λ a. is_recorded request.now a ≡ false → self.new.log ≡ self.old.log) }
         ensures kept { OnOk result (Keeps S.rows S.room self.new) }
+        ensures follows { IfOk result (λ a. Follows S.rows S.room self.old self.new request.now a) }
         ensures stays { Stays S.keeps S.staged self.old.store self.new.store }
         ensures well_formed { IfOk result IsAnswer }
         ensures quiet { IfOk result (λ a. is_quiet a ≡ true) }

@@ -1,12 +1,10 @@
 -- A call as a node has it: an answer that isn't had twice, a moment of the clock, and repaired fuses.
-use Rattle.std.proofs.Common.{◌≡◌, inl, inr, ℕ, ◌+◌, ◌≤◌, max, List, [], ◌∷◌, ◌++◌, map, refl, sym, ◌∙◌, ap, subst, arith, true, false}
-use Rattle.std.specs.Prelude.{Bool, ℤ, Option, None, ⊤, ◌⊎◌}
-use Rattle.std.proofs.lemmas.Bool.{false≢true, true≢false}
-use Rattle.std.proofs.lemmas.List.{map-append}
+use Rattle.std.proofs.Common.{◌≡◌, inl, inr, ℕ, ◌≤◌, max, List, [], ◌∷◌, ◌++◌, refl, sym, subst, arith, true, false}
+use Rattle.std.specs.Prelude.{Bool, ℤ, Option, None, ◌⊎◌}
+use Rattle.std.proofs.lemmas.Bool.{false≢true}
 use Rattle.hb_edge.specs.Fuses.{last_of, faults_of}
 use Rattle.hb_edge.specs.Images.{Image}
 use Rattle.hb_edge.specs.Runs.{weaker}
-use Rattle.hb_edge.specs.Stops.{Leaves}
 use Rattle.hb_edge.specs.declared.fused.Fused.{Fused}
 use Rattle.hb_types.specs.declared.answer.Answer.{Answer}
 use Rattle.hb_types.specs.declared.answer.Edge.{Edge}
@@ -20,16 +18,15 @@ use Rattle.hb_types.specs.declared.places.Path.{Path}
 use Rattle.hb_types.specs.declared.places.Place.{Place}
 use Rattle.hb_types.specs.declared.request.Request.{Request}
 use Rattle.hb_types.specs.declared.request.Request.TheVariants as request
-use Rattle.hb_types.specs.Calls.{may_pass}
 use Rattle.hb_disks.specs.Points.{Point}
 use Rattle.hb_runs.specs.Server.{SState}
-use Rattle.hb_runs.specs.ServerEffects.{Effect, came_up}
+use Rattle.hb_runs.specs.ServerEffects.{Effect}
 use Rattle.hb_runs.specs.ServerCauses.{Causes}
-use Rattle.hb_runs.specs.ServerAnswers.{Right, RightIn, takes_none}
+use Rattle.hb_runs.specs.ServerAnswers.{RightIn}
 use Rattle.hb_runs.specs.ServerRuns.{Asked, Run, Turns}
 use Rattle.hb_server.specs.declared.state.State.{State}
 use Rattle.hb_server.specs.declared.state.State.TheVariants.{Down, Up, Away}
-use Rattle.hb_server.specs.Law.{Explains, Goes, IsBase, IsDown, IsFit, IsLeft, IsServing, IsStoppedLog, IsTold, Rests, area_left, asking, content_of, faults_in, is_heavy, is_passed, last_in, left_of, log_left, mended_in}
+use Rattle.hb_server.specs.Law.{Explains, Goes, IsBase, IsFit, IsLeft, IsStoppedLog, IsTold, Rests, asking, content_of, faults_in, is_heavy, last_in, left_of, mended_in}
 
 -- ---- an answer that isn't had twice
 

@@ -1,8 +1,7 @@
 -- A call in the trail of a node.
-use Rattle.std.proofs.Common.{◌≡◌, inl, inr, ℕ, ◌+◌, ◌≤◌, ◌<◌, max, List, [], ◌∷◌, ◌++◌, map, refl, sym, ◌∙◌, ap, subst, arith, true, false}
-use Rattle.std.specs.Prelude.{Bool, Option, ⊤, ◌⊎◌}
+use Rattle.std.proofs.Common.{◌≡◌, inl, inr, ℕ, ◌≤◌, List, [], ◌∷◌, ◌++◌, refl, sym, ◌∙◌, ap, subst, arith, true}
+use Rattle.std.specs.Prelude.{Bool, Option, ◌⊎◌}
 use Rattle.std.proofs.lemmas.Bool.{false≢true}
-use Rattle.std.proofs.lemmas.List.{map-append}
 use Rattle.hb_edge.specs.Fuses.{last_of}
 use Rattle.hb_edge.specs.Images.{Image}
 use Rattle.hb_edge.specs.declared.fused.Fused.{Fused}
@@ -15,10 +14,10 @@ use Rattle.hb_types.specs.declared.trail.TrailEntry.{TrailEntry}
 use Rattle.hb_types.specs.Calls.{IsAnswer, may_pass}
 use Rattle.hb_disks.specs.Points.{Point}
 use Rattle.hb_runs.specs.Server.{SState}
-use Rattle.hb_runs.specs.ServerRuns.{Asked, Run}
+use Rattle.hb_runs.specs.ServerRuns.{Asked}
 use Rattle.hb_node.specs.Laws.{State as NodeState, serving, deciding, managing, Images, Explains as IsExplained, asked_in, asked_of, entry_of}
 use Rattle.hb_server.specs.declared.state.State.{State}
-use Rattle.hb_server.specs.Law.{Explains, ExplainsNode, Goes, IsLeft, IsTold, asking, content_of, is_heavy, is_passed, last_in, leaves_in, left_of, log_left}
+use Rattle.hb_server.specs.Law.{Explains, ExplainsNode, Goes, IsLeft, IsTold, asking, content_of, is_passed, last_in, leaves_in, left_of, log_left}
 use Rattle.hb_server.proofs.Asking.{at_moment, told_goes}
 
 pub passes : (q : Request) (a : Answer) → is_passed q a ≡ true → may_pass q a ≡ true

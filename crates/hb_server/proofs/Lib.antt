@@ -7,3 +7,6 @@ pub mod Waking
 pub mod Asking
 pub mod Entering
 pub mod FuseLaws
+pub mod Counting
+pub mod Rooming
+pub mod Finding

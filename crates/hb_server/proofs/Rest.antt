@@ -1,12 +1,10 @@
 -- Disks of which each image left has a fact: a call more, and what a stop of a server leaves.
-use Rattle.std.proofs.Common.{◌≡◌, inl, inr, ⊎_elim, ℕ, ◌+◌, ◌<◌, ◌≤◌, max, List, [], ◌∷◌, ◌++◌, length, refl, sym, ◌∙◌, ap, subst, arith, true, false}
-use Rattle.std.specs.Prelude.{Bool, Option, Some, None, IfSome, is_some, ⊤, ◌⊎◌}
+use Rattle.std.proofs.Common.{◌≡◌, ⊎_elim, ℕ, ◌<◌, ◌≤◌, max, refl, sym, ◌∙◌, subst, arith, true}
+use Rattle.std.specs.Prelude.{Option, Some, None, IfSome, is_some}
 use Rattle.std.proofs.lemmas.Bool.{cases_lt, false≢true}
 use Rattle.hb_edge.specs.Images.{Image, Same}
 use Rattle.hb_edge.specs.Moments.{tick}
 use Rattle.hb_edge.specs.Stops.{Leaves, Passes}
-use Rattle.hb_store.specs.Meanings.{HoldsSame}
-use Rattle.hb_disks.specs.Points.{Point}
 use Rattle.hb_server.specs.Law.{Rests}
 
 pub told_some : {A : Type 0} (o : Option A) → is_some o ≡ true → (x : A) × (o ≡ Some x)

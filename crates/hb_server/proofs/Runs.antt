@@ -1,5 +1,5 @@
 -- Runs of a server: one turn more, what stays of a state, and the turns of starts, stops and faults.
-use Rattle.std.proofs.Common.{◌≡◌, inl, inr, ℕ, ◌+◌, ◌≤◌, ◌<◌, List, [], ◌∷◌, ◌++◌, map, length, refl, sym, ◌∙◌, ap, subst, arith, true, false}
+use Rattle.std.proofs.Common.{◌≡◌, inl, inr, ℕ, ◌+◌, List, [], ◌∷◌, ◌++◌, map, refl, sym, ◌∙◌, ap, subst, true, false}
 use Rattle.std.specs.Prelude.{Bool, Option, unwrap_or}
 use Rattle.std.proofs.lemmas.Bool.{false≢true}
 use Rattle.hb_edge.specs.Images.{Image}
@@ -22,7 +22,6 @@ use Rattle.hb_runs.specs.ServerCauses.{Causes}
 use Rattle.hb_runs.specs.ServerAnswers.{Right, RightIn}
 use Rattle.hb_runs.specs.ServerRuns.{Asked, Run, Turns}
 use Rattle.hb_force.specs.Standing.{HasFrom, Recorded, items_of}
-use Rattle.hb_node.specs.Laws.{HasLog, serving}
 use Rattle.hb_server.specs.Law.{IsBase, IsLeft, asking, from_of, is_passed, is_refusal}
 
 pub run_more : (s : SState) (trail : List Asked) (u t : SState) (a : Asked) → Run s trail u → Turns u a t → Run s (trail ++ a ∷ []) t

@@ -1,7 +1,8 @@
 -- A start: what a stop leaves in it, and what the server comes up with.
-use Rattle.std.proofs.Common.{◌≡◌, inl, inr, ⊎_elim, ℕ, ◌+◌, ◌*◌, ◌<◌, ◌≤◌, max, List, [], ◌∷◌, ◌++◌, map, length, refl, sym, ◌∙◌, ap, subst, arith, true, false}
-use Rattle.std.specs.Prelude.{Bool, Option, Some, is_some, nat_lt, All, ⊤, ◌⊎◌, unwrap_or}
+use Rattle.std.proofs.Common.{◌≡◌, inl, inr, ℕ, ◌+◌, ◌*◌, ◌<◌, ◌≤◌, List, [], ◌∷◌, ◌++◌, map, length, refl, sym, ◌∙◌, ap, subst, arith, true}
+use Rattle.std.specs.Prelude.{Option, Some, is_some, nat_lt, All, ◌⊎◌, unwrap_or}
 use Rattle.std.proofs.lemmas.Bool.Decides.{nat_tests}
+use Rattle.std.proofs.lemmas.List.{length-map}
 use Rattle.std.proofs.lemmas.List.Elements.{recursion_from_All}
 use Rattle.hb_codec.specs.Reading.{OneForm}
 use Rattle.hb_codec.specs.Spellings.{IsBodyOf}
@@ -10,7 +11,6 @@ use Rattle.hb_edge.specs.Runs.{weaker}
 use Rattle.hb_edge.specs.Stops.{Leaves}
 use Rattle.hb_types.specs.declared.answer.Answer.{Answer}
 use Rattle.hb_types.specs.declared.answer.Answer.TheVariants as answer
-use Rattle.hb_types.specs.declared.change.Change.{Change}
 use Rattle.hb_types.specs.declared.change.LogItem.{LogItem}
 use Rattle.hb_types.specs.declared.change.LogItem.TheVariants.{Prepare, Commit, Abort, Decision, Ids}
 use Rattle.hb_types.specs.declared.change.Placed.{Placed}
@@ -23,31 +23,27 @@ use Rattle.hb_types.specs.Logs.{Records, RecordsFrom, readable}
 use Rattle.hb_types.specs.Numbers.{IsNumber, greatest}
 use Rattle.hb_types.specs.Records.{HasRecord, IsChange}
 use Rattle.hb_types.proofs.Ascending.{Each-append, Each-of}
-use Rattle.hb_log.specs.declared.log.Log.{Log}
 use Rattle.hb_log.specs.Log.{IsSettled, IsSameOrShort}
 use Rattle.hb_log.proofs.Readings.{one_reading}
-use Rattle.hb_disks.specs.LogPlaces.{end_behind}
 use Rattle.hb_disks.specs.Points.{Point, at_point, no_point}
 use Rattle.hb_disks.specs.Redo.{Prepared, Redone, after, changes_of, redo_from}
-use Rattle.hb_runs.specs.Server.{SState, now}
+use Rattle.hb_runs.specs.Server.{SState, as_branch, now, unended}
 use Rattle.hb_runs.specs.ServerEffects.{came_up, happens}
-use Rattle.hb_runs.specs.ServerRuns.{Asked, Run, Turns}
-use Rattle.hb_engine.specs.declared.engine.Engine.{Engine}
+use Rattle.hb_runs.specs.ServerRuns.{Asked}
 use Rattle.hb_engine.specs.Restores.{IsUpWith}
 use Rattle.hb_engine.specs.Turned.{StandsFor}
 use Rattle.hb_store.specs.declared.point.Point.{Point as Mark}
-use Rattle.hb_store.specs.Meanings.{IsOn, IsStored, Stays, mark_of, room_for}
+use Rattle.hb_store.specs.Meanings.{IsStored, Stays, mark_of, room_for}
 use Rattle.hb_redo.specs.Restarts.{redone}
 use Rattle.hb_force.specs.declared.running.Running.{Running}
-use Rattle.hb_force.specs.Kept.{IsSound, IsSoundDoubt, Keeps}
-use Rattle.hb_force.specs.Standing.{HasFrom, IsUp, items_of}
+use Rattle.hb_force.specs.Kept.{IsSoundDoubt, Kept}
+use Rattle.hb_force.specs.Standing.{items_of}
 use Rattle.hb_force.proofs.Rooming.{each-changes}
 use Rattle.hb_force.proofs.Rows.{HasRow, rows_put_all}
 use Rattle.hb_force.proofs.Sounding.{all_of, each-without_tx}
 use Rattle.hb_server.specs.declared.state.Resting.{Resting}
-use Rattle.hb_server.specs.declared.state.Serving.{Serving}
-use Rattle.hb_server.specs.Law.{Rests, IsStoppedLog, IsDown, IsLoaded, IsServing, IsLeft, IsInside, IsBase, asking, from_of, is_refusal}
-use Rattle.hb_server.proofs.Rest.{at_some, read_has, rests_then, told_some}
+use Rattle.hb_server.specs.Law.{IsStoppedLog, IsDown, IsLoaded, IsServing, IsLeft, IsInside, asking, from_of, is_refusal}
+use Rattle.hb_server.proofs.Rest.{rests_then}
 use Rattle.hb_server.proofs.Runs.{run_more, run_place, now_is, failed_turn, start_turn}
 use Rattle.hb_server.proofs.Stops.{down_more, stopped_left}
 
@@ -131,24 +127,32 @@ unfolding IsSafe
 started_well rows mark records found low stored recorded are =
     all_of (λ (t : Tx). IsNumber t.0) found (numbers_of found (redone rows mark.floor records).doubts are (redone_safe rows mark records low stored recorded).0)
 
+-- as many are told as are in doubt
+pub told_many : (rows : List Stored) (mark : Mark) (records : List Placed) (found : List Tx) → map (λ (t : Tx). t.0) found ≡ map (λ p. p.tx) (redone rows mark.floor records).doubts → length found ≡ length (redone rows mark.floor records).doubts
+told_many rows mark records found are =
+    sym (length-map found (λ (t : Tx). t.0)) ∙ ap length are ∙ length-map (redone rows mark.floor records).doubts (λ (p : Prepared). p.tx)
+
 abbrev come : Redone → ℕ → SState
 come r place = record { base = r; place = place; log = []; live = []; up = true }
 
 -- what is kept of a server that comes up, whatever its disks tell
 pub keeps_up : {D S : Type 0} (rows : S → List Stored) (room : S → Place → ℕ) (old : S) (mark : Mark) (records : List Placed) (end : ℕ) (r : Running D S) → r.log.end ≡ end → mark.floor.0 ≤ greatest → All IsStored (rows old) → All (λ (p : Placed). HasRecord p.item) records
     → ((s : SState) → IsUpWith (redone (rows old) mark.floor records) s → StandsFor r.engine (rows r.store) s) → end + 32 * length (redone (rows old) mark.floor records).doubts ≤ greatest
-    → ((place : Place) → room r.store place ≡ room old place + room_for place (redone (rows old) mark.floor records).doubts) → Keeps rows room r
+    → ((place : Place) → room r.store place ≡ room old place + room_for place (redone (rows old) mark.floor records).doubts)
+    → (k : Kept rows room r) × (length (unended k.state) ≡ length (redone (rows old) mark.floor records).doubts)
 unfolding IsSafe
 keeps_up {D} {S} rows room old mark records end r end_is low stored recorded stands fits rooms =
-    let safe = redone_safe (rows old) mark records low stored recorded in
-    ∣ record {
-      state = come (redone (rows old) mark.floor records) r.log.end;
-      stands = stands (come (redone (rows old) mark.floor records) r.log.end) (record { up = refl; no_live = refl; now_is = refl });
-      sound = record { live = tt; doubts = safe.0; floor = safe.1; rows = safe.2 };
-      end_is = refl;
-      has_room = omega (arith, fits, end_is);
-      rooms = λ place. let more = rooms place in omega (arith, more);
-    } ∣₁
+    let safe = redone_safe (rows old) mark records low stored recorded in (
+      record {
+        state = come (redone (rows old) mark.floor records) r.log.end;
+        stands = stands (come (redone (rows old) mark.floor records) r.log.end) (record { up = refl; no_live = refl; now_is = refl });
+        sound = record { live = tt; doubts = safe.0; floor = safe.1; rows = safe.2 };
+        end_is = refl;
+        has_room = omega (arith, fits, end_is);
+        rooms = λ place. let more = rooms place in omega (arith, more);
+      },
+      length-map (redone (rows old) mark.floor records).doubts as_branch,
+    )
 
 -- ---- with disks that tell their content
 

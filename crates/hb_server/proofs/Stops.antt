@@ -1,8 +1,7 @@
 -- Calls that a stopped server answers, a Stop, and a fault.
-use Rattle.std.proofs.Common.{◌≡◌, inl, inr, ⊎_elim, ℕ, ◌+◌, ◌<◌, ◌≤◌, max, List, [], ◌∷◌, ◌++◌, length, refl, sym, ◌∙◌, ap, subst, arith, true, false}
-use Rattle.std.specs.Prelude.{Bool, Option, Some, is_some, ⊤, ◌⊎◌}
+use Rattle.std.proofs.Common.{◌≡◌, inl, inr, ℕ, ◌≤◌, List, [], ◌∷◌, ◌++◌, length, refl, sym, ap, subst, arith, false}
+use Rattle.std.specs.Prelude.{Option, is_some}
 use Rattle.hb_edge.specs.Images.{Image}
-use Rattle.hb_edge.specs.Runs.{weaker}
 use Rattle.hb_edge.specs.Stops.{Leaves}
 use Rattle.hb_types.specs.declared.answer.Answer.{Answer}
 use Rattle.hb_types.specs.declared.answer.Answer.TheVariants as answer
@@ -12,19 +11,15 @@ use Rattle.hb_types.specs.declared.request.Request.{Request}
 use Rattle.hb_types.specs.declared.request.Request.TheVariants as request
 use Rattle.hb_disks.specs.Points.{Point}
 use Rattle.hb_runs.specs.Server.{SState}
-use Rattle.hb_runs.specs.ServerEffects.{Effect, Allowed, happens, lost}
-use Rattle.hb_runs.specs.ServerAnswers.{Right}
-use Rattle.hb_runs.specs.ServerRuns.{Asked, Run, Turns}
-use Rattle.hb_store.specs.Meanings.{IsOn, Stays}
-use Rattle.hb_force.specs.Standing.{HasFrom, IsUp, IsBetween, Recorded}
+use Rattle.hb_runs.specs.ServerEffects.{happens, lost}
+use Rattle.hb_runs.specs.ServerRuns.{Asked, Turns}
 use Rattle.hb_force.proofs.Logging.{log_left}
-use Rattle.hb_server.specs.declared.state.Resting.{Resting}
 use Rattle.hb_server.specs.declared.state.Serving.{Serving}
 use Rattle.hb_server.specs.declared.state.State.{State}
 use Rattle.hb_server.specs.declared.state.State.TheVariants.{Down, Up, Away}
-use Rattle.hb_server.specs.Law.{Explains, last_in, log_left as left_of_log, Rests, IsStoppedLog, IsDown, IsServing, IsLeft, IsInside, IsBase, asking, from_of, is_refusal}
-use Rattle.hb_server.proofs.Rest.{rests_later, unmoved}
-use Rattle.hb_server.proofs.Runs.{run_more, left_by, down_turn, failed_turn, stop_turn, fault_before, fault_after}
+use Rattle.hb_server.specs.Law.{Explains, last_in, log_left as left_of_log, IsStoppedLog, IsDown, IsServing, IsLeft, IsInside, IsBase, asking, from_of}
+use Rattle.hb_server.proofs.Rest.{unmoved}
+use Rattle.hb_server.proofs.Runs.{run_more, left_by, stop_turn}
 
 -- a log that is left of a stopped server is one of the run
 pub stopped_left : (p : Option Point) (read : List LogItem) (first : SState) (trail : List Asked) (image : Image) → IsBase p read first → IsStoppedLog p read first trail image → IsLeft first trail image

@@ -1,6 +1,6 @@
 -- A Start: both disks are restarted, the point is loaded, and the log is opened.
-use Rattle.std.proofs.Common.{◌≡◌, inl, inr, ℕ, ◌+◌, ◌<◌, ◌≤◌, max, List, [], ◌∷◌, ◌++◌, refl, sym, ◌∙◌, ap, subst, arith, true, false}
-use Rattle.std.specs.Prelude.{Bool, Option, Some, None, IfSome, is_some, ⊤, ◌⊎◌, unwrap_or}
+use Rattle.std.proofs.Common.{◌≡◌, inl, ℕ, ◌≤◌, max, List, [], ◌∷◌, ◌++◌, ◌∙◌, ap, subst, arith, true}
+use Rattle.std.specs.Prelude.{Option, Some, None, IfSome, is_some, ⊤, ◌⊎◌, unwrap_or}
 use Rattle.hb_edge.specs.Images.{Image, Same}
 use Rattle.hb_edge.specs.Moments.{tick}
 use Rattle.hb_edge.specs.Runs.{weaker}
@@ -17,7 +17,7 @@ use Rattle.hb_server.specs.declared.state.Resting.{Resting}
 use Rattle.hb_server.specs.declared.state.State.{State}
 use Rattle.hb_server.specs.declared.state.State.TheVariants.{Down}
 use Rattle.hb_server.specs.Law.{Goes, Rests, IsStoppedLog, IsDown, IsLoaded, IsLeft, area_left, asking, is_refusal, log_left}
-use Rattle.hb_server.proofs.Rest.{at_some, leaves_then, read_has, rests_later, rests_then, same_leaves, told_some}
+use Rattle.hb_server.proofs.Rest.{leaves_then, read_has, rests_then, same_leaves, told_some}
 use Rattle.hb_server.proofs.Runs.{failed_turn}
 use Rattle.hb_server.proofs.Stops.{down_more, stopped_left}
 

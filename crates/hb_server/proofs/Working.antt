@@ -1,7 +1,7 @@
 -- A request of a server that is up.
-use Rattle.std.proofs.Common.{◌≡◌, inl, inr, ⊎_elim, ℕ, ◌+◌, ◌<◌, ◌≤◌, max, List, [], ◌∷◌, ◌++◌, length, refl, sym, ◌∙◌, ap, subst, arith, true, false}
-use Rattle.std.specs.Prelude.{Bool, Option, Some, is_some, ⊤, ◌⊎◌}
-use Rattle.std.proofs.lemmas.Bool.{cases_lt, false≢true, true≢false}
+use Rattle.std.proofs.Common.{◌≡◌, inl, inr, ℕ, ◌≤◌, max, List, [], ◌∷◌, ◌++◌, length, refl, ◌∙◌, ap, subst, arith, true, false}
+use Rattle.std.specs.Prelude.{Option, is_some, ◌⊎◌}
+use Rattle.std.proofs.lemmas.Bool.{false≢true}
 use Rattle.hb_edge.specs.Images.{Image}
 use Rattle.hb_edge.specs.Runs.{weaker}
 use Rattle.hb_edge.specs.Stops.{Leaves}
@@ -9,13 +9,12 @@ use Rattle.hb_types.specs.declared.answer.Answer.{Answer}
 use Rattle.hb_types.specs.declared.answer.Answer.TheVariants as answer
 use Rattle.hb_types.specs.declared.change.LogItem.{LogItem}
 use Rattle.hb_types.specs.declared.change.Stored.{Stored}
-use Rattle.hb_types.specs.declared.names.Tx.{Tx}
 use Rattle.hb_types.specs.declared.request.Request.{Request}
 use Rattle.hb_types.specs.declared.request.Request.TheVariants as request
 use Rattle.hb_disks.specs.Points.{Point}
 use Rattle.hb_log.specs.declared.log.Log.{Log}
-use Rattle.hb_runs.specs.Server.{SState, IsAlive, IsInDoubt}
-use Rattle.hb_runs.specs.ServerEffects.{Effect, Allowed, Steps, happens, lost, prepared, committed, aborted, dropped}
+use Rattle.hb_runs.specs.Server.{SState, IsInDoubt}
+use Rattle.hb_runs.specs.ServerEffects.{Effect, Allowed, Steps, happens, lost, aborted, dropped}
 use Rattle.hb_runs.specs.ServerCauses.{Causes}
 use Rattle.hb_runs.specs.ServerAnswers.{Right}
 use Rattle.hb_runs.specs.ServerRuns.{Asked, Run, Turns}
@@ -26,10 +25,8 @@ use Rattle.hb_force.specs.declared.running.Running.{Running}
 use Rattle.hb_force.specs.Standing.{HasFrom, IsUp, IsBetween, Recorded, is_recorded}
 use Rattle.hb_force.proofs.Causing.{doubt_dead}
 use Rattle.hb_force.proofs.Logging.{log_left}
-use Rattle.hb_server.specs.declared.state.Resting.{Resting}
 use Rattle.hb_server.specs.declared.state.Serving.{Serving}
-use Rattle.hb_server.specs.Law.{Rests, IsStoppedLog, IsDown, IsServing, IsLeft, IsInside, IsBase, asking, from_of, is_passed}
-use Rattle.hb_server.proofs.Rest.{at_some}
+use Rattle.hb_server.specs.Law.{IsDown, IsServing, IsLeft, asking, from_of, is_passed}
 use Rattle.hb_server.proofs.Runs.{run_more, left_by, fault_before, fault_after, passed_turn}
 use Rattle.hb_server.proofs.Stops.{inside_longer}
 

@@ -1,2 +1,4 @@
 pub mod Law
 pub mod Explained
+pub mod Rooms
+pub mod Damages

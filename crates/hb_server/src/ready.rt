@@ -1,17 +1,21 @@
 // A server's state before and after a call.
-ghost use Rattle.std.specs.Prelude.{◌≡◌, ◌≤◌, ℕ, Bool, true, List};
+ghost use Rattle.std.specs.Prelude.{◌≡◌, ◌≢◌, ◌+◌, ◌-◌, ◌≤◌, ℕ, Bool, true, List};
 ghost use Rattle.hb_edge.specs.Causes.{Rose};
 ghost use Rattle.hb_edge.specs.Fuses.{last_of, faults_of};
 ghost use Rattle.hb_edge.specs.Images.{Image};
 ghost use Rattle.hb_types.specs.Calls.{IsAnswer, IsRequest};
 ghost use Rattle.hb_runs.specs.Server.{SState};
+ghost use Rattle.hb_runs.specs.ServerAnswers.{takes_none};
 ghost use Rattle.hb_runs.specs.ServerRuns.{Asked};
+ghost use Rattle.hb_server.specs.Damages.{Reads};
 ghost use Rattle.hb_server.specs.Law.{Explains, Goes, IsFit, IsLeft, content_of, left_of, is_passed as is_passed_by, last_in, log_left, faults_in, mended_in};
+ghost use Rattle.hb_server.specs.Rooms.{HasEnds, HasRoomFor, entries_of, is_plain, most_calls};
 
 use crate::state::{Resting, State};
 use crate::turn::turn;
 use hb_edge::{Clock, Disk, Fused};
 use hb_store::Store;
+use hb_trail::Trail;
 use hb_types::{Answer, Request};
 use std::alloc::Global;
 use std::mem;
@@ -59,11 +63,13 @@ fn mend<D: Disk, S: Store>(state: State<Fused<D>, S>) -> State<Fused<D>, S>
 /// Does one request.
 pub(crate) fn advance<D: Disk, S: Store>(
     alloc: Global,
+    trail: &mut Trail,
     state: &mut State<Fused<D>, S>,
     clock: &mut Clock,
     request: &Request,
 ) -> Answer
     requires fit { IsFit S.rows S.room state.old }
+    requires room { ∥ HasRoomFor S.rows S.room state.old request.now trail.old.spare ∥₁ }
     requires well_formed { IsRequest request.now }
     ensures goes { (first : SState) (trail : List Asked) → Explains (content_of D.content) (left_of D.left) (last_of D.last) S.rows S.keeps S.staged S.point_in first trail state.old clock.old
         → Goes (content_of D.content) (left_of D.left) (last_of D.last) S.rows S.keeps S.staged S.point_in first trail request.now result state.old state.new clock.old clock.new }
@@ -75,9 +81,15 @@ pub(crate) fn advance<D: Disk, S: Store>(
     ensures count { faults_in (faults_of D.faults) state.old ≤ faults_in (faults_of D.faults) state.new }
     ensures clock { clock.old ≤ clock.new }
     ensures in_time { last_in (last_of D.last) state.old ≤ clock.old → last_in (last_of D.last) state.new ≤ clock.new }
+    ensures entries { trail.new.entries ≡ trail.old.entries }
+    ensures entry { entries_of request.now result ≤ trail.new.spare }
+    ensures ends { ∥ HasEnds S.rows S.room state.new (trail.new.spare - entries_of request.now result) ∥₁ }
+    ensures memory { takes_none request.now ≡ true → is_plain result ≡ true }
+    ensures finds { request.now ≡ Request.Start → last_in (last_of D.last) state.old ≤ clock.old → Reads (content_of D.content) (left_of D.left) (last_of D.last) S.point_in S.header_in state.old result }
+    ensures calls { request.now ≢ Request.Start → clock.new ≤ clock.old + most_calls request.now }
 {
     let held = mend(mem::replace(state, State::Away));
-    let (held, answer) = turn(alloc, held, clock, request);
+    let (held, answer) = turn(alloc, trail, held, clock, request);
     match mem::replace(state, held) {
         State::Away => answer,
         State::Down(_rest) => unreachable!(),

@@ -7,6 +7,7 @@ ghost use Rattle.hb_types.specs.Calls.{IsRequest};
 use crate::Server;
 use hb_edge::{Clock, Disk};
 use hb_memdisk::MemDisk;
+use hb_node::Node;
 use hb_store::Store;
 use hb_types::{
     Answer, Bytes, Change, Mode, NoMemory, NodeName, Number, Owner, Path, Place, Request, Space, Tx,
@@ -56,6 +57,7 @@ fn told(answer: Answer) -> (u8, u64) {
         Answer::NoBranch => (9, 0),
         Answer::Down => (10, 0),
         Answer::AlreadyUp => (11, 0),
+        Answer::Damaged { area: false, place } => (12, place),
         _ => (0, 0),
     }
 }
@@ -85,6 +87,12 @@ fn commit(server: &mut Ds, clock: &mut Clock, tx: u64, number: u64) -> (u8, u64)
 {
     let number = Number(number);
     asks(server, clock, Request::Commit { tx: Tx(tx), number })
+}
+
+fn rollback(server: &mut Ds, clock: &mut Clock, tx: u64) -> (u8, u64)
+    requires tx { IsNumber tx }
+{
+    asks(server, clock, Request::Rollback { tx: Tx(tx) })
 }
 
 fn read(server: &mut Ds, clock: &mut Clock, tx: u64) -> (u8, u64)
@@ -245,5 +253,41 @@ fn a_vote_outlives_a_stop(rt: HostRuntime) -> Result<(), Fail> {
     let _before = written(alloc, &mut ds, &mut clock)?;
     let told = restarted(&mut ds, &mut clock);
     assert_eq!(rt; told, [(2, 0), (1, 0), (10, 0), (4, 1), (1, 0)]);
+    Ok(())
+}
+
+// The ends of a branch that isn't there, and of one that is given up.
+fn ended(server: &mut Ds, clock: &mut Clock) -> [(u8, u64); 5] {
+    [
+        prepare(server, clock, 2),
+        commit(server, clock, 2, 5),
+        rollback(server, clock, 2),
+        rollback(server, clock, 1),
+        prepare(server, clock, 1),
+    ]
+}
+
+#[test]
+fn no_branch_has_no_end(rt: HostRuntime) -> Result<(), Fail> {
+    let alloc = rt.alloc();
+    let mut ds = server(alloc);
+    let mut clock = Clock::new();
+    let _started = asks(&mut ds, &mut clock, Request::Start);
+    let _enlisted = enlist(&mut ds, &mut clock, 1);
+    let told = ended(&mut ds, &mut clock);
+    assert_eq!(rt; told, [(9, 0), (9, 0), (9, 0), (1, 0), (9, 0)]);
+    Ok(())
+}
+
+#[test]
+fn a_damaged_log_is_told(rt: HostRuntime) -> Result<(), Fail> {
+    let alloc = rt.alloc();
+    let bytes = Bytes::new(Vec::from_slice(alloc, &[1, 2, 0, 0, 0, 9, 9, 0])?);
+    let log = MemDisk::new(alloc, bytes, Vec::new(alloc), Vec::new(alloc));
+    let mut ds = Server::new(alloc, NodeName(1), log, disk(alloc), Whole::new(alloc));
+    let mut clock = Clock::new();
+    let started = asks(&mut ds, &mut clock, Request::Start);
+    let early = commit(&mut ds, &mut clock, 1, 5);
+    assert_eq!(rt; (started, early), ((12, 0), (10, 0)));
     Ok(())
 }

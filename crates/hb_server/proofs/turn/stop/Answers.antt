@@ -1,4 +1,4 @@
-use Rattle.std.proofs.Common.{inl, arith}
+use Rattle.std.proofs.Common.{inl}
 use Rattle.hb_edge.specs.Runs.{weaker}
 use Rattle.hb_server.proofs.Rest.{unmoved}
 use Rattle.hb_server.proofs.Stops.{stops, up_leaves}

@@ -2,12 +2,15 @@ use Rattle.std.proofs.Common.{◌+◌, ℕ, List, sym, ◌∙◌, ap, subst, ari
 use mathlib.Core.Logic.{∥∥₁_elim, ∥∥₁_map}
 use Rattle.std.proofs.Props.{props}
 use Rattle.hb_edge.specs.Runs.{weaker}
+use Rattle.hb_types.specs.declared.answer.Answer.TheVariants as answer
+use Rattle.hb_types.specs.declared.request.Request.TheVariants as request
 use Rattle.hb_types.specs.declared.change.Stored.{Stored}
 use Rattle.hb_types.specs.declared.change.LogItem.TheVariants as item
 use Rattle.hb_types.specs.Put.{put_all}
 use Rattle.hb_types.specs.Records.{HasRecord}
 use Rattle.hb_runs.specs.Server.{SState}
 use Rattle.hb_runs.specs.ServerEffects.{happens, committed}
+use Rattle.hb_runs.specs.ServerRuns.{Turns}
 use Rattle.hb_engine.specs.Turned.{StandsFor}
 use Rattle.hb_force.proofs.Measuring.{spelled_long}
 use Rattle.hb_force.proofs.Once.{changes_once}
@@ -56,18 +59,22 @@ returns-clause-turns g c = λ from read s up.
     (sym c.apply_all.ensures.rows) ((c.in-Some.ensures (g.S.Store.rows c.args.self.now.store) s d.0 up.stands d.1).1 d.2)
     (c.in_ok-append.ensures.done from (read ++ s.log) (item.Commit c.args.tx c.args.number) up.log has_record c.commit_bytes.ensures)
 
-pub returns-clause-kept : goal.returns-clause-kept
-returns-clause-kept g c = ∥∥₁_map c.requires.kept (λ k.
+pub returns-clause-follows : goal.returns-clause-follows
+returns-clause-follows g c = λ k.
     let d = c.requires.commits (g.S.Store.rows c.args.self.now.store) k.state k.stands in
     let e = c.in-Some.ensures (g.S.Store.rows c.args.self.now.store) k.state d.0 k.stands d.1 in
     let rows = put_all (g.S.Store.rows c.args.self.now.store) c.in-Some.changes.items in
     let t = e.1 d.2 in
     let here = commit_state k.state c.args.tx c.args.number (λ t. StandsFor c.committed.new.self rows t) t in
-    kept_committed g.S.Store.rows g.S.Store.room c.args.self.now k _ c.args.tx c.args.number d.0 c.in-Some.changes.items c.requires.number d.1 e.0
+    let n = kept_committed g.S.Store.rows g.S.Store.room c.args.self.now k _ c.args.tx c.args.number d.0 c.in-Some.changes.items c.requires.number d.1 e.0
     (subst (λ (l : List Stored). StandsFor c.committed.new.self l (happens k.state (committed c.args.tx.0 c.args.number.0))) (sym c.apply_all.ensures.rows)
     (subst (λ (x : SState). StandsFor c.committed.new.self rows x) (sym here) t.at))
     (c.in_ok-append.ensures.end ∙ ap (λ (n : ℕ). c.args.self.now.log.end + n) (spelled_long (item.Commit c.args.tx c.args.number) c.commit_bytes.result c.commit_bytes.ensures))
-    c.apply_all.ensures.room)
+    c.apply_all.ensures.room in
+    (n.0, subst (λ (x : SState). Turns k.state (record { request = request.Commit c.args.tx c.args.number; answer = answer.Done }) x) (sym here ∙ n.1) t.turn)
+
+pub returns-clause-kept : goal.returns-clause-kept
+returns-clause-kept g c = ∥∥₁_map c.requires.kept (λ k. (returns-clause-follows g c k).0)
 
 pub append-requires-clause-fits : goal.append-requires-clause-fits
 append-requires-clause-fits g c = ∥∥₁_elim c.requires.kept (hlevel props) (λ k.

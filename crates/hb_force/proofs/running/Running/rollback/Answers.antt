@@ -2,11 +2,14 @@ use Rattle.std.proofs.Common.{◌+◌, ℕ, List, sym, ◌∙◌, ap, subst, ari
 use mathlib.Core.Logic.{∥∥₁_elim, ∥∥₁_map}
 use Rattle.std.proofs.Props.{props}
 use Rattle.hb_edge.specs.Runs.{weaker}
+use Rattle.hb_types.specs.declared.answer.Answer.TheVariants as answer
+use Rattle.hb_types.specs.declared.request.Request.TheVariants as request
 use Rattle.hb_types.specs.declared.change.Stored.{Stored}
 use Rattle.hb_types.specs.declared.change.LogItem.TheVariants as item
 use Rattle.hb_types.specs.Records.{HasRecord}
 use Rattle.hb_runs.specs.Server.{SState}
 use Rattle.hb_runs.specs.ServerEffects.{happens, aborted}
+use Rattle.hb_runs.specs.ServerRuns.{Turns}
 use Rattle.hb_engine.specs.Turned.{StandsFor}
 use Rattle.hb_force.proofs.Causing.{doubt_dead}
 use Rattle.hb_force.proofs.Measuring.{spelled_long}
@@ -49,17 +52,21 @@ returns-clause-turns g c = λ from read s up.
     (sym c.unroom.ensures.rows) ((c.in-Some.ensures (g.S.Store.rows c.args.self.now.store) s d.0 up.stands d.1).1)
     (c.in_ok-append.ensures.done from (read ++ s.log) (item.Abort c.args.tx) up.log has_record c.abort_bytes.ensures)
 
-pub returns-clause-kept : goal.returns-clause-kept
-returns-clause-kept g c = ∥∥₁_map c.requires.kept (λ k.
+pub returns-clause-follows : goal.returns-clause-follows
+returns-clause-follows g c = λ k.
     let d = c.requires.rolls_back.1 (g.S.Store.rows c.args.self.now.store) k.state k.stands in
     let rows = g.S.Store.rows c.args.self.now.store in
     let e = c.in-Some.ensures rows k.state d.0 k.stands d.1 in
     let here = abort_state k.state c.args.tx (λ t. StandsFor c.aborted.new.self rows t) (doubt_dead c.args.self.now.engine rows k.state c.args.tx.0 d.0 k.stands d.1) e.1 in
-    kept_aborted g.S.Store.rows g.S.Store.room c.args.self.now k _ c.args.tx d.0 c.deref.result.now d.1 (e.0 ∙ sym c.deref.ensures.value)
+    let n = kept_aborted g.S.Store.rows g.S.Store.room c.args.self.now k _ c.args.tx d.0 c.deref.result.now d.1 (e.0 ∙ sym c.deref.ensures.value)
     (subst (λ (l : List Stored). StandsFor c.aborted.new.self l (happens k.state (aborted c.args.tx.0))) (sym c.unroom.ensures.rows)
     (subst (λ (x : SState). StandsFor c.aborted.new.self rows x) (sym here) e.1.at))
     (c.in_ok-append.ensures.end ∙ ap (λ (n : ℕ). c.args.self.now.log.end + n) (spelled_long (item.Abort c.args.tx) c.abort_bytes.result c.abort_bytes.ensures))
-    c.unroom.ensures.room)
+    c.unroom.ensures.room in
+    (n.0, subst (λ (x : SState). Turns k.state (record { request = request.Rollback c.args.tx; answer = answer.Done }) x) (sym here ∙ n.1) e.1.turn)
+
+pub returns-clause-kept : goal.returns-clause-kept
+returns-clause-kept g c = ∥∥₁_map c.requires.kept (λ k. (returns-clause-follows g c k).0)
 
 pub append-requires-clause-fits : goal.append-requires-clause-fits
 append-requires-clause-fits g c = ∥∥₁_elim c.requires.kept (hlevel props) (λ k.

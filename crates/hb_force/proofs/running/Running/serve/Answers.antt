@@ -3,6 +3,7 @@ use mathlib.Core.Logic.{∥∥₁_elim, ∥∥₁_map}
 use Rattle.std.proofs.Props.{props}
 use Rattle.std.specs.Prelude.{IfOk, OnErr}
 use Rattle.hb_engine.specs.declared.engine.Engine.{Engine}
+use Rattle.hb_force.specs.Kept.{Follows}
 use Rattle.hb_force.specs.Standing.{Turns, Faults, LeavesBetween}
 use Rattle.hb_requests.specs.Forced.{Forces}
 use Rattle.hb_force.proofs.Turning.{between_none}
@@ -20,9 +21,12 @@ pub returns-in-Some-clause-leaves : goal.returns-in-Some-clause-leaves
 returns-in-Some-clause-leaves g c = λ from read s up.
     between_none g.D.Disk.content g.D.Disk.left g.D.Disk.last g.S.Store.rows from read s c.args.self.now c.args.clock.now up c.args.request.now (g.met.D.Disk.stands c.args.self.now.log.disk)
 
+pub returns-in-Some-clause-follows : goal.returns-in-Some-clause-follows
+returns-in-Some-clause-follows g c = λ k.
+    kept_turn g.S.Store.rows g.S.Store.room c.args.self.now k _ c.args.request.now c.in-Some.answer c.requires.well_formed c.has_paths.ensures c.in-Some.ensures.records_none (c.in-Some.ensures.turns k.state k.stands) refl refl
+
 pub returns-in-Some-clause-kept : goal.returns-in-Some-clause-kept
-returns-in-Some-clause-kept g c = ∥∥₁_map c.requires.kept (λ k.
-    kept_turn g.S.Store.rows g.S.Store.room c.args.self.now k _ c.args.request.now c.in-Some.answer c.requires.well_formed c.has_paths.ensures c.in-Some.ensures.records_none (c.in-Some.ensures.turns k.state k.stands) refl refl)
+returns-in-Some-clause-kept g c = ∥∥₁_map c.requires.kept (λ k. (returns-in-Some-clause-follows g c k).0)
 
 pub returns-in-Some-clause-quiet : goal.returns-in-Some-clause-quiet
 returns-in-Some-clause-quiet g c = ∥∥₁_elim c.requires.kept (hlevel props) (λ k.
@@ -30,7 +34,7 @@ returns-in-Some-clause-quiet g c = ∥∥₁_elim c.requires.kept (hlevel props)
 
 pub force-requires-clause-kept : goal.force-requires-clause-kept
 force-requires-clause-kept g c =
-    ∥∥₁_map c.requires.kept (λ k. kept_store g.S.Store.rows g.S.Store.room c.args.self.now k _ (forced_same c.args.self.now.engine c.answer.new.engine c.args.request.now c.in-None.ensures.turns) refl refl (λ place. omega arith))
+    ∥∥₁_map c.requires.kept (λ k. (kept_store g.S.Store.rows g.S.Store.room c.args.self.now k _ (forced_same c.args.self.now.engine c.answer.new.engine c.args.request.now c.in-None.ensures.turns) refl refl (λ place. omega arith)).0)
 
 pub force-requires-clause-forces : goal.force-requires-clause-forces
 force-requires-clause-forces g c =
@@ -57,6 +61,13 @@ returns-in-None-clause-leaves g c =
     subst
     (λ (e : Engine). LeavesBetween g.D.Disk.content g.D.Disk.left g.D.Disk.last g.S.Store.rows (record { log = c.args.self.now.log; store = c.args.self.now.store; engine = e }) c.args.clock.now c.force.new.self c.args.request.now)
     same c.force.ensures.leaves
+
+pub returns-in-None-clause-follows : goal.returns-in-None-clause-follows
+returns-in-None-clause-follows g c =
+    let same = forced_same c.args.self.now.engine c.answer.new.engine c.args.request.now c.in-None.ensures.turns in
+    subst
+    (λ (e : Engine). IfOk c.force.result (λ a. Follows g.S.Store.rows g.S.Store.room (record { log = c.args.self.now.log; store = c.args.self.now.store; engine = e }) c.force.new.self c.args.request.now a))
+    same c.force.ensures.follows
 
 pub returns-in-None-clause-no_calls : goal.returns-in-None-clause-no_calls
 returns-in-None-clause-no_calls g c = λ e. absurd (c.force.ensures.no_calls e)

@@ -1,7 +1,8 @@
 use Rattle.std.proofs.Common.{◌-◌}
 use mathlib.Core.Logic.{∥∥₁_map}
 use Rattle.hb_server.proofs.FuseLaws.{armed_faults, armed_fit, armed_last, armed_leaves, armed_node}
-use Rattle.hb_server.proofs.server.Server.arm.Goals as goal
+use Rattle.hb_server.proofs.Rooming.{armed_ends}
+use Rattle.hb_server.proofs.node.ServerNode.arm.Goals as goal
 
 pub returns-clause-explains : goal.returns-clause-explains
 returns-clause-explains g c = λ origin asked is.
@@ -18,4 +19,4 @@ pub returns-clause-faults : goal.returns-clause-faults
 returns-clause-faults g c = rw c.arm.ensures (armed_faults g.D.Disk.faults (c.args.k - 1) c.args.area c.args.self.now.state)
 
 pub invariant_of-self : goal.invariant_of-self
-invariant_of-self g c = record { numbered = c.args.self.now.numbered; fit = rw c.arm.ensures (∥∥₁_map c.args.self.now.fit (armed_fit g.S.Store.rows g.S.Store.room (c.args.k - 1) c.args.area c.args.self.now.state)) }
+invariant_of-self g c = record { numbered = c.args.self.now.numbered; fit = rw c.arm.ensures (∥∥₁_map c.args.self.now.fit (armed_fit g.S.Store.rows g.S.Store.room (c.args.k - 1) c.args.area c.args.self.now.state)); ends = rw c.arm.ensures (∥∥₁_map c.args.self.now.ends (λ e. armed_ends g.S.Store.rows g.S.Store.room (c.args.k - 1) c.args.area c.args.self.now.state c.args.self.now.trail.spare e)) }
