@@ -8,3 +8,10 @@ mod stage;
 
 pub use machine::Plan;
 pub use stage::Taken;
+
+#[cfg(test)]
+mod asking;
+#[cfg(test)]
+mod statements;
+#[cfg(test)]
+mod tests;

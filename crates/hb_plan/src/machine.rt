@@ -5,7 +5,7 @@ ghost use Rattle.hb_types.specs.Numbers.{IsNumber};
 ghost use Rattle.hb_model.specs.Plain.{is_plain};
 ghost use Rattle.hb_talk.specs.PlansDefine.{plan};
 ghost use Rattle.hb_access.specs.Accesses.{use_of, AsksSoundly};
-ghost use Rattle.hb_plan.specs.Planned.{is_planned, is_asking, is_waiting, now_talks, AsksOn, Hears, IsTold, NextIs, Uses};
+ghost use Rattle.hb_plan.specs.Planned.{is_planned, is_asking, is_waiting, now_talks, AsksOn, Hears, IsCounted, IsTold, NextIs, Uses};
 
 use crate::begins::stage_of;
 use crate::stage::{Stage, Taken};
@@ -51,6 +51,7 @@ impl Plan {
         requires within { (1 ≤ back_ends) × (back_ends ≤ 8) }
         ensures usage { IfOk result (λ p. p.usage ≡ usage) }
         ensures asking { IfOk result (λ p. is_asking p ≡ true) }
+        ensures counted { IfOk result IsCounted }
         ensures talk { IfOk result (λ p. now_talks p ≡ plan back_ends statement (use_of usage)) }
     {
         let stage = stage_of(alloc, usage, back_ends, statement);
@@ -68,6 +69,7 @@ impl Plan {
     pub fn next(&mut self) -> Next
         requires { is_asking self.old ≡ true }
         ensures next { NextIs self.old self.new result }
+        ensures counted { IsCounted self.new }
         ensures tx { self.new.usage.tx.0 ≡ self.old.usage.tx.0 }
         ensures used { Uses self.old.usage self.new.usage result }
         ensures sound { IsNumber self.old.usage.tx.0 → AsksSoundly result }
@@ -81,6 +83,7 @@ impl Plan {
         requires answer { IsAnswer answer }
         ensures hears { IsTold self.old answer → Hears self.old self.new answer result }
         ensures asking { AsksOn self.new result }
+        ensures counted { IsCounted self.new }
         ensures tx { self.new.usage.tx.0 ≡ self.old.usage.tx.0 }
         ensures used { self.new.usage.used ≡ self.old.usage.used }
     {
