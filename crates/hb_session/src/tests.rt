@@ -97,6 +97,7 @@ fn shown(progress: Progress) -> u64 {
         Progress::Shown(_) => 3,
         Progress::Ended(Reply::Committed(number)) => 100u64.wrapping_add(number.0),
         Progress::Ended(Reply::RolledBack) => 200,
+        Progress::Ended(Reply::RolledBackEnd) => 250,
         Progress::Ended(Reply::Down(node)) => 300 + u64::from(node.0),
         Progress::Ended(_) => 4,
     }
@@ -197,5 +198,17 @@ fn rolls_back_at_one_node(rt: HostRuntime) -> Result<(), Fail> {
     let mut session = opened(rt.alloc());
     session.give(Statement::Rollback)?;
     assert_eq!(rt; run(&mut session, &mut nodes), (200, 0x01a, false));
+    Ok(())
+}
+
+#[test]
+fn a_transaction_is_closed(rt: HostRuntime) -> Result<(), Fail> {
+    let mut nodes = Stated {
+        answers: [Says::Done; 4],
+        made: Vec::new(rt.alloc()),
+    };
+    let mut session = opened(rt.alloc());
+    session.close();
+    assert_eq!(rt; run(&mut session, &mut nodes), (250, 0x01a, false));
     Ok(())
 }

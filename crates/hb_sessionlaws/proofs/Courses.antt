@@ -70,7 +70,7 @@ module _ (w : Caller) where
   request_leads node _ k m a h = h.1 a
 
   -- an answer of the lock itself, by way of mgr
-  by_way : {R : Type 0} (l : Lock) (k : Answer → Talk R) (m : Moment) (a : Answer) → Always w (asks l.node.0 (lock_of l) k) m Anyhow → Always w (k a) m Anyhow
+  pub by_way : {R : Type 0} (l : Lock) (k : Answer → Talk R) (m : Moment) (a : Answer) → Always w (asks l.node.0 (lock_of l) k) m Anyhow → Always w (k a) m Anyhow
   by_way l k m a h = subst (λ z. Always w (k a) z Anyhow) (lock_leaves w l.node.0 l.tx l.path l.mode a m) (h.1 a)
 
   wait_leads : {R : Type 0} (l : Lock) (k : Answer → Talk R) (m : Moment) (a : Answer) → Always w (asks l.node.0 (lock_of l) k) m Anyhow → AlwaysIn (by_heard k (after_wait l a)) m

@@ -1,5 +1,5 @@
 // Laws of what sessions ask.
-ghost use Rattle.hb_sessionlaws.specs.Lives.{LivesObey};
+ghost use Rattle.hb_sessionlaws.specs.Lives.{LivesObey, StepsSit};
 ghost use Rattle.hb_sessionlaws.specs.Sessions.{EndedSessionsObey, SessionsObey};
 
 use hb_session::{ends_follow, runs_follow};
@@ -21,4 +21,9 @@ pub fn ended_sessions_obey()
 /// Transaction after transaction all that a session asks obeys, and it counts those that begun.
 pub fn lives_obey()
     ensures { LivesObey }
+{}
+
+/// Each step of a session is one of its life, with the one call that it adds.
+pub fn steps_sit()
+    ensures { StepsSit }
 {}

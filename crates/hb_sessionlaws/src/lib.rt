@@ -3,4 +3,4 @@
 
 mod laws;
 
-pub use laws::{ended_sessions_obey, lives_obey, sessions_obey};
+pub use laws::{ended_sessions_obey, lives_obey, sessions_obey, steps_sit};

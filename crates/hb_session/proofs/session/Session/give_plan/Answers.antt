@@ -21,6 +21,7 @@ hold-requires-clause-asking c =
         subst IsNumber (sym c.in-Ask.ensures.tx) c.requires.used.0,
         used_next plan next c.in-Ask.node c.in-Ask.request (now_hears next) c.in-Ask.ensures.used told.1 (inl c.requires.used.1),
       );
+      counted = c.in-Ask.ensures.counted;
       waiting = told.0;
     }
 

@@ -22,6 +22,7 @@ hold-requires-clause-asking c =
         subst IsNumber (sym c.in-Ask.ensures.tx) c.requires.tx,
         used_next plan next c.in-Ask.node c.in-Ask.request (now_hears next) c.in-Ask.ensures.used told.1 c.requires.starts,
       );
+      counted = c.in-Ask.ensures.counted;
       waiting = told.0;
     }
 
