@@ -31,7 +31,7 @@ use Rattle.hb_talk.specs.Plans.{names, some_or, table_of, writes}
 use Rattle.hb_talk.specs.PlansDefine.{add_area_plan, areas, changed_rows, create_area_plan, create_table_plan, lock_group, named_only, new_rows, number_of, put_row, spread_of, spreading, with_areas, with_tables}
 use Rattle.hb_talk.specs.Talk.{Use, Planning, ◌>>=◌, ◌>>◌, lock, pure, refuse, scan, scan_group}
 use Rattle.std.specs.Prelude.{unwrap_or}
-use Rattle.hb_planlocks.specs.Asked.{AreUnder}
+use Rattle.hb_model.specs.Asked.{AreUnder}
 use Rattle.hb_planlocks.proofs.Bears.{Bearing, bearing_bind, bears_lock, bears_refuse, bears_scan, bears_scan_group, bears_some_or, bears_writes}
 use Rattle.hb_planlocks.proofs.RowLocks.{all_kept, filter-more, named_by, named_first, named_more}
 

@@ -1,3 +1,4 @@
+pub mod Course
 pub mod Bears
 pub mod RowLocks
 pub mod DefineLocks

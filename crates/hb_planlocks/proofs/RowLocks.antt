@@ -39,7 +39,7 @@ use Rattle.hb_model.specs.Spots.{ds, dictionary_space, entries_space, entry_plac
 use Rattle.hb_model.specs.Told.{Found, entry_of, found_in, table_among}
 use Rattle.hb_talk.specs.Plans.{areas_of_routes, considered, entry_under, insert_plan, lock_plan, locking, lying_rows, names, putting, scanning, some_or, stored_at, table_of, walking, with_lying, writes}
 use Rattle.hb_talk.specs.Talk.{Use, Planning, ◌>>=◌, ◌>>◌, lock, pure, read, refuse, scan, scan_group}
-use Rattle.hb_planlocks.specs.Asked.{AreUnder}
+use Rattle.hb_model.specs.Asked.{AreUnder}
 use Rattle.hb_planlocks.proofs.Bears.{Bearing, bearing_bind, bears_lock, bears_read, bears_refuse, bears_scan, bears_scan_group, bears_some_or, bears_writes}
 
 -- ---- lists
@@ -76,7 +76,7 @@ each_with P n [] h e = (h, tt)
 each_with P n (m ∷ ms) h e =
     by_test (nat_lt n m) (λ t. rw t (h, e)) (λ f. by_test (n == m) (λ t. rw (f, t) e) (λ g. rw (f, g) (e.0, each_with P n ms h e.1)))
 
-each_from : (P : ℕ → Type 0) (xs done : List ℕ) → Each P done → Each P xs → Each P (fold (λ ns n. with_number n ns) done xs)
+pub each_from : (P : ℕ → Type 0) (xs done : List ℕ) → Each P done → Each P xs → Each P (fold (λ ns n. with_number n ns) done xs)
 each_from P [] done d e = d
 each_from P (x ∷ xs) done d e = each_from P xs (with_number x done) (each_with P x done e.0 d) e.1
 

@@ -1,0 +1,5 @@
+pub mod Splits
+pub mod Commits
+pub mod Goings
+pub mod Dividing
+pub mod Kept
