@@ -1,5 +1,5 @@
 mod Chains
-mod PutTexts
+pub mod PutTexts
 mod Clocks
 mod Acting
 mod LinesSaid

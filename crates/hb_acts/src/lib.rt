@@ -2,11 +2,13 @@
 #![tactic(auto)]
 
 mod acts;
+mod over;
 mod putting;
 mod run;
 mod stop;
 mod words;
 
+pub use over::run_nodes;
 pub use putting::put_line;
 pub use run::run_script;
 pub use stop::{Stop, status, status_word};
