@@ -1,4 +1,8 @@
--- each statement on rows, with refusals, and lines that are none
+-- a table over two back ends: each statement on rows with refusals, two sessions, steps, and lines that are none
+s1: CREATE RDAREA A1 ON bes1
+s1: CREATE RDAREA A2 ON bes2
+s1: CREATE TABLE T (K INTEGER, V VARCHAR(20)) HASH HASHA BY K IN (A1, A2)
+s1: COMMIT
 s1: INSERT INTO T VALUES (5, 'e')
 s1: INSERT INTO T VALUES (-1, 'a,b')
 s1: INSERT INTO T VALUES (5, 'f')
@@ -17,7 +21,15 @@ s1: DELETE FROM U
 
 s1: DELETE FROM T WHERE K < 0
 s1: COMMIT
-s2: SELECT * FROM T
+s1: UPDATE T SET V = 'f' WHERE K = 5
+s2: SELECT V FROM T WHERE K = 5
+s1: COMMIT
+s2: ROLLBACK
+GIVE s2: SELECT COUNT(*) FROM T
+STEP s2 5
+STEP s2 1000
+STEP s2 1
+START bes1
 s1: SELEC * FROM T
 s1: SELECT FROM T
 # the end

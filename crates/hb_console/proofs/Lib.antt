@@ -1,17 +1,4 @@
-pub mod Settled
-pub mod ListSteps
-pub mod EditRows
-pub mod EditLists
-pub mod Committing
-pub mod LogRows
-pub mod Serving
-pub mod Replaying
-pub mod Replying
-pub mod Asking
-pub mod Behind
-pub mod LinesRead
-pub mod Halting
-pub mod Running
-pub mod Finishing
-pub mod Starting
-pub mod Ending
+mod Tellings
+mod Origins
+mod Ending
+mod Commands

@@ -1,69 +1,76 @@
--- The top call: its words, what stands at each of its statuses, and what a stop leaves.
-use Rattle.std.specs.Prelude.{◌≡◌, ◌≢◌, ◌⊎◌, ◌≤◌, ℕ, List, [], ◌∷◌, IfSome, codes}
+-- The top call: what stands at each of its statuses.
+use Rattle.std.specs.Prelude.{◌≡◌, ◌≢◌, ◌⊎◌, ℕ, ◌+◌, ◌<◌, ◌≤◌, All, List, [], ◌∷◌, length, slice_index_or, Option, IfSome}
+use Rattle.std.specs.List.{AllZip}
 use Rattle.hb_edge.specs.Causes.{Rose}
 use Rattle.hb_edge.specs.Images.{Image}
-use Rattle.hb_edge.specs.Moments.{tick}
 use Rattle.hb_edge.specs.Streams.{with_end}
-use Rattle.hb_table.specs.declared.order.Order.{Order}
-use Rattle.hb_table.specs.Log.{Kept, IsTableLog}
-use Rattle.hb_table.specs.Run.{Standing, replies, HasShown}
-use Rattle.hb_console.specs.declared.stop.Stop.{Stop}
-use Rattle.hb_console.specs.Stops.{code_of}
-use Rattle.hb_console.specs.Outside.{Outside, GoesOn, IsInTime, HasLongLine}
-use Rattle.hb_console.specs.Openings.{ForLog}
-use Rattle.hb_console.specs.Tables.{Stores, IsNoTable}
-use Rattle.hb_console.specs.Runs.{ForOrders, IsFrontOfRun, Finishes, SurviveSince}
+use Rattle.hb_types.specs.declared.answer.Answer.TheVariants as answer
+use Rattle.hb_types.specs.declared.names.Tx.{Tx}
+use Rattle.hb_types.specs.declared.request.Request.TheVariants as request
+use Rattle.hb_types.specs.declared.trail.TrailEntry.{TrailEntry}
+use Rattle.hb_node.specs.Laws.{asked_of}
+use Rattle.hb_node.specs.Lists.{asked}
+use Rattle.hb_print.specs.Texts.{text_of}
+use Rattle.hb_stepper.specs.Running.{Running}
+use Rattle.hb_system.specs.Disks.{AreKept, IsKept, IsEmpty, HasFault}
+use Rattle.hb_system.specs.Opening.{IsFirstWritten, damage_at}
+use Rattle.hb_acts.specs.declared.stop.Stop.{Stop}
+use Rattle.hb_acts.specs.declared.stop.Stop.TheVariants.{Memory}
+use Rattle.hb_acts.specs.Outside.{Outside, GoesOn, HasLongLine}
+use Rattle.hb_acts.specs.Putting.{IsFront}
+use Rattle.hb_acts.specs.Runs.{Finishes, StopsAt}
+use Rattle.hb_acts.specs.Stops.{code_of}
 
--- the words are `run -b 1`
-abbrev pub IsRun : List (List ℕ) → Type 0
-IsRun words = words ≡ codes "run" ∷ codes "-b" ∷ codes "1" ∷ []
+-- A system of n back ends that was just opened: there is no session and no line, and each of its nodes was asked its Start alone.
+pub record IsOrigin (n : ℕ) (origin : Running) : Type 0 where
+  pub names : origin.names ≡ []
+  pub seats : origin.seats ≡ []
+  pub waiters : origin.waiters ≡ []
+  pub lines : origin.lines ≡ []
+  pub started : (k : ℕ) → k < n + 2 → (doubts : List Tx) × (origin.lists k ≡ asked request.Start (answer.Started doubts) ∷ [])
+  pub others : (k : ℕ) → n + 2 ≤ k → origin.lists k ≡ []
 
--- the sink gained a front of the run's text, at 8 all replies before the line that is too long; but at 5 the disk stores the
--- rows at the start as the first of the accepted orders change them, with each whose reply is out among these
-pub record Stands (status : ℕ) (before after : Outside) (start : Standing) (input : List ℕ) (orders : List Order) : Type 0 where
-  pub shown : List ℕ
-  pub text : after.output ≡ with_end shown before.output
-  pub front : IsFrontOfRun input start orders shown
-  pub whole : status ≡ 8 → shown ≡ replies 1 start orders
-  pub stores : status ≢ 5 → (standing : Standing) × Stores standing after.content after.left after.last × HasShown start orders shown standing
+-- each node was asked its Start alone
+abbrev pub AreStarted : {N : Type 0} → (N → List TrailEntry) → List N → Type 0
+AreStarted {N} trail nodes = (k : ℕ) (d : N) → k < length nodes → (doubts : List Tx) × (asked_of (trail (slice_index_or nodes k d)) ≡ asked request.Start (answer.Started doubts) ∷ [])
 
--- for the rows and the last number of the log that the disk was, and the orders that the lines of the source asked
-abbrev pub ForRun : Outside → (Standing → List ℕ → List Order → Type 0) → Type 0
-ForRun before P = IsInTime before → IfSome before.content (λ image. ForLog image (λ start. ForOrders before.input (P start)))
+-- the system was opened, and this is so from there on of the script, where its source tells it
+abbrev pub FromOrigin : ℕ → Outside → (Running → List ℕ → Type 0) → Type 0
+FromOrigin n before P = (origin : Running) × IsOrigin n origin × IfSome before.input (P origin)
 
--- the first call of the disk, its sync, failed, and there was no other: a stop leaves what it left before
-pub record IsUntouched (status : ℕ) (before after : Outside) : Type 0 where
-  pub failed : status ≡ 5
-  pub one_call : after.moment ≡ tick before.moment
-  pub output : after.output ≡ before.output
-  pub content : after.content ≡ before.content
-  pub left : (m : ℕ) (image : Image) → tick before.moment ≤ m → after.left m image → before.left before.last image
-
--- nothing is done, and a stop from the opening's sync on leaves the disk as it reads
-pub record IsRefused (before after : Outside) : Type 0 where
-  pub no_table : IfSome before.content IsNoTable
-  pub output : after.output ≡ before.output
-  pub content : after.content ≡ before.content
+-- nothing was read, and nothing was put
+pub record IsUnread (before after : Outside) : Type 0 where
   pub input : after.input ≡ before.input
-  pub left : IsInTime before → (m : ℕ) (image : Image) → tick before.moment ≤ m → after.left m image → IfSome before.content (λ read. image ≡ read)
+  pub output : after.output ≡ before.output
 
--- how a run over one disk ends
-pub record Ends (status : ℕ) (before after : Outside) : Type 0 where
-  pub not_usage : status ≢ 1
-  pub named : status ≢ 0 → (stop : Stop) × (status ≡ code_of stop)
+-- Nothing was read, and the line of the first disk that isn't empty was put; a front of it where the sink failed. The disks are as
+-- they were.
+pub record IsDamaged {D : Type 0} (content : D → Option Image) (faults : D → ℕ) (old new : List D) (before after : Outside) : Type 0 where
+  pub at : ℕ
+  pub kept : AllZip (IsKept content faults) old new
+  pub first : IsFirstWritten content new at
+  pub input : after.input ≡ before.input
+  pub shown : List ℕ
+  pub output : after.output ≡ with_end shown before.output
+  pub front : IsFront shown (text_of [] (damage_at at))
+  pub whole : (shown ≡ text_of [] (damage_at at)) ⊎ Rose before.faults.sink after.faults.sink
+
+-- The count of a disk rose in the opening: as the disks were synced and measured, or as a node that was made of them was started.
+abbrev pub DiskFailed : {D : Type 0} → (D → Option Image) → (D → ℕ) → (D → ℕ) → (List D → List D → Type 0) → ℕ → List D → List D → Type 0
+DiskFailed {D} content last faults Failed from old new = HasFault faults old new ⊎ ((taken : List D) × (mid : ℕ) × AreKept content last faults from mid old taken × Failed taken new)
+
+-- how a run over the disks of a system of n back ends, begun at a moment, ends
+pub record Ends {D : Type 0} (content : D → Option Image) (last faults : D → ℕ) (Failed : List D → List D → Type 0) (from n status : ℕ) (before after : Outside) (old new : List D) : Type 0 where
+  pub known : (status ≡ 0) ⊎ ((status ≡ 5) ⊎ ((status ≡ 6) ⊎ ((stop : Stop) × (status ≡ code_of stop))))
   pub goes_on : GoesOn before after
-  pub finished : status ≡ 0 → ForRun before (Finishes before after)
-  pub stopped : status ≢ 0 → ForRun before (Stands status before after)
-  -- at every moment from the opening's sync on, each image left is a log of the table that has each statement whose COMMITTED was out by then
-  pub survives : ForRun before (λ start input orders. IsUntouched status before after ⊎ SurviveSince (tick before.moment) before after start input orders)
+  pub finished : status ≡ 0 → FromOrigin n before (λ origin. Finishes origin before after)
+  pub stopped : (stop : Stop) → status ≡ code_of stop → ((stop ≡ Memory) × IsUnread before after) ⊎ FromOrigin n before (λ origin. StopsAt origin before after stop)
   -- 3, 4 and 5 come only where the device's count rose
   pub source_failed : status ≡ 3 → Rose before.faults.source after.faults.source
   pub sink_failed : status ≡ 4 → Rose before.faults.sink after.faults.sink
-  pub disk_failed : status ≡ 5 → Rose before.faults.disk after.faults.disk
-  -- 8 comes only where a line of the source has more than 8,192 bytes; at 0 each line asked something, so none has
+  pub disk_failed : status ≡ 5 → DiskFailed content last faults Failed from old new × IsUnread before after
+  -- 8 comes only where a line of the source has more than 8,192 bytes; at 0 each line says something, so none has
   pub line_too_long : status ≡ 8 → IfSome before.input HasLongLine
-  -- 6 comes exactly where the disk that was read is no log of the table
-  pub damaged : status ≡ 6 → IsRefused before after
-  pub refused : IfSome before.content (λ image. IsNoTable image → (status ≡ 5) ⊎ (status ≡ 6) ⊎ (status ≡ 7))
-  -- over a log of the table, and where no count rose, the run is done, memory was wanting, or a line was too long
-  pub quiet : (Rose before.faults.source after.faults.source → ⊥) → (Rose before.faults.sink after.faults.sink → ⊥) → (Rose before.faults.disk after.faults.disk → ⊥) → IfSome before.content (λ image. (kept : Kept) → IsTableLog image kept → (status ≡ 0) ⊎ (status ≡ 7) ⊎ (status ≡ 8))
+  -- 6 comes exactly where a disk isn't empty
+  pub damaged : status ≡ 6 → IsDamaged content faults old new before after
+  pub empty : status ≢ 5 → status ≢ 6 → status ≢ 7 → All (IsEmpty content) old

@@ -1,9 +1,2 @@
-pub mod Stops
-pub mod Outside
-pub mod Edits
-pub mod Tables
-pub mod Replays
-pub mod Committing
-pub mod Openings
-pub mod Runs
 pub mod Ends
+pub mod Telling

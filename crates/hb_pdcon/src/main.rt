@@ -1,8 +1,9 @@
-//! The program: `run -b 1` over the file bes1.log of the current folder, from standard input to standard output.
+//! The program: `run -b N` over the files of the current folder, from standard input to standard output.
 #![tactic(auto)]
 
+use hb_acts::{back_ends, status_word};
 use hb_adapt::{FileDisk, Stdin, Stdout};
-use hb_console::{Ended, back_ends, console_run, status_word};
+use hb_console::{Ended, console_run};
 use hb_edge::Clock;
 use hb_types::{NoMemory, Text};
 use std::alloc::Global;
@@ -11,8 +12,28 @@ use std::process::ExitCode;
 use std::rt::{Env, Files};
 use std::{env, io};
 
-/// The disks' files, in the order in which they are handed over.
-const FILES: [&str; 1] = ["bes1.log"];
+/// The disks' files, in the order in which they are handed over. A system of N back ends has the first 3 + 2N.
+const FILES: [&str; 19] = [
+    "fes1.log",
+    "ds.log",
+    "ds.area",
+    "bes1.log",
+    "bes1.area",
+    "bes2.log",
+    "bes2.area",
+    "bes3.log",
+    "bes3.area",
+    "bes4.log",
+    "bes4.area",
+    "bes5.log",
+    "bes5.area",
+    "bes6.log",
+    "bes6.area",
+    "bes7.log",
+    "bes7.area",
+    "bes8.log",
+    "bes8.area",
+];
 
 /// The words after the program's name. Where the system has none to give, there are none.
 fn words<R: Env + AllocGlobal>(rt: &R, alloc: Global) -> Result<Vec<Text>, NoMemory> {
@@ -32,8 +53,9 @@ fn disks<R: Files<File = File>>(
     words: &[Text],
 ) -> Result<Vec<FileDisk>, NoMemory> {
     let mut disks = Vec::new(alloc);
-    if back_ends(words) > 0 {
-        for name in FILES {
+    let count = back_ends(words) as usize;
+    if count > 0 {
+        for name in FILES.iter().take(3 + 2 * count) {
             let name = Text::new(name.as_bytes().to_vec(alloc)?);
             disks.push(FileDisk::new(rt, &name))?;
         }

@@ -1,6 +1,0 @@
-use Rattle.hb_execute.proofs.ExecuteLemmas.{insert_elsewhere}
-use Rattle.hb_execute.proofs.statements.insert.Goals as goal
-
-pub returns-else-is_the_table : goal.returns-else-is_the_table
-returns-else-is_the_table c =
-    insert_elsewhere c.args.rows.now.entries c.args.table.now c.args.values.now c.is_the_table.result c.refused.result c.is_the_table.ensures c.if-is_the_table.false c.refused.ensures.answer c.refused.ensures.edits

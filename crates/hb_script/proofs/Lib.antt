@@ -1,6 +1,0 @@
-pub mod CutLemmas
-pub mod FrontLemmas
-pub mod ReturnLemmas
-pub mod Causes
-pub mod ReadingLemmas
-pub mod OrderLemmas

@@ -1,4 +1,0 @@
-pub mod Asks
-pub mod Answered
-pub mod Scripts
-pub mod Parts
