@@ -1,8 +1,6 @@
 -- What an access asks first, by what its transaction has used.
 use Rattle.std.proofs.Common.{◌≡◌, ℕ, zero, suc, ◌+◌, ◌/◌, ◌%◌, ◌^◌, ◌<◌, ◌==◌, Bool, true, false, nat_le, List, Option, Some, None, Result, Ok, Err, refl, ap, sym, ◌∙◌, arith}
 use Rattle.std.specs.Prelude.{if◌then◌else◌}
-use Rattle.std.proofs.Math.Nat.{add-div_right}
-use Rattle.std.proofs.lemmas.Nat.{pow_pos}
 use Rattle.hb_types.specs.declared.answer.Answer.{Answer}
 use Rattle.hb_types.specs.declared.change.Change.{Change}
 use Rattle.hb_types.specs.declared.change.Stored.{Stored}
@@ -15,19 +13,12 @@ use Rattle.hb_model.specs.Needs.{most_locks}
 use Rattle.hb_model.specs.NodeSets.{has_node, with_node}
 use Rattle.hb_model.specs.declared.reply.Reply.{Reply}
 use Rattle.hb_model.specs.declared.reply.Reply.TheVariants as reply
-use Rattle.hb_talk.specs.Talk.{Talk, says, asks, going_on, Use, Planning, ◌>>=◌, ◌>>◌, pure, and_then, met, done, the_tx, the_row, the_rows, expect}
+use Rattle.hb_talk.specs.Talk.{Talk, says, asks, going_on, Use, Planning, ◌>>=◌, ◌>>◌, pure, and_then, met, done, the_tx, the_row, the_rows, expect, joining}
+use Rattle.hb_talk.proofs.Bits.{with_it}
 use Rattle.hb_access.specs.declared.goal.Goal.{Goal}
 use Rattle.hb_access.specs.declared.goal.Got.{Got}
 use Rattle.hb_access.specs.declared.goal.Got.TheVariants as got
-use Rattle.hb_access.specs.Accesses.{Ended, locked, behind_lock, under, written, once_done, as_row, as_rows, found_under}
-
--- ---- a node that was added to a set is in it
-
-odd_after : (q : ℕ) → (q % 2 == 1) ≡ false → ((q + 1) % 2 == 1) ≡ true
-odd_after q even = grind arith
-
-pub has_with : (set n : ℕ) → has_node set n ≡ false → has_node (with_node set n) n ≡ true
-has_with set n free = rw free (ap (λ q. q % 2 == 1) (add-div_right set (pow_pos n)) ∙ odd_after (set / 2 ^ n) free)
+use Rattle.hb_access.specs.Accesses.{Ended, locked, behind_lock, under, written, once_done, once_enlisted, joined_or, as_row, as_rows, found_under}
 
 -- the use with a node's branch
 abbrev pub with_branch : ℕ → Use → Use
@@ -44,21 +35,22 @@ locking g = λ u.
     if nat_le most_locks u.locks then says (Err reply.TooMuch, u) else expect done g.node.0 (request.Lock (the_tx u) g.path g.mode) (with_lock u)
 
 -- what follows an Enlist is the whole again
-again : (g : Goal) (u : Use) → has_node u.used g.node.0 ≡ true → (r : Result (Unit {0}) Reply)
-    → going_on (λ r. and_then (λ _. behind_lock g) r.1 r.0) (and_then (λ _. locking g) u r) ≡ and_then (λ _. locked g) u r
-again g u has (Ok x) = rw has refl
-again g u has (Err e) = refl
+again : (g : Goal) (u : Use) (r : Result (Unit {0}) Reply)
+    → going_on (λ r. and_then (λ _. behind_lock g) r.1 r.0) (going_on (λ r. and_then (λ _. locking g) r.1 r.0) (and_then (λ _. joining g.node.0) u r))
+    ≡ joined_or u.used (locked g) (with_branch g.node.0 u) r
+again g u (Ok x) = rw (with_it u.used g.node.0) refl
+again g u (Err e) = refl
 
 -- the whole, by whether the node is in the set
 abbrev by_set : Goal → Use → Bool → Talk Ended
 by_set g u b = going_on (λ r. and_then (λ _. behind_lock g) r.1 r.0) (going_on (λ r. and_then (λ _. locking g) r.1 r.0)
-    (if b then says (Ok tt, u) else expect done g.node.0 (request.Enlist (the_tx u)) (with_branch g.node.0 u)))
+    (if b then says (Ok tt, u) else (expect done g.node.0 (request.Enlist (the_tx u)) >> joining g.node.0) u))
 
 pub enlists_first : (g : Goal) (u : Use) → has_node u.used g.node.0 ≡ false
-    → locked g u ≡ asks g.node.0 (request.Enlist (the_tx u)) (once_done g.node.0 (locked g) (with_branch g.node.0 u))
+    → locked g u ≡ asks g.node.0 (request.Enlist (the_tx u)) (once_enlisted g.node.0 u.used (locked g) (with_branch g.node.0 u))
 enlists_first g u free =
     let asked : locked g u ≡ by_set g u false = ap (by_set g u) free in
-    asked ∙ (λ i. asks g.node.0 (request.Enlist (the_tx u)) (λ a. again g (with_branch g.node.0 u) (has_with u.used g.node.0 free) (met g.node.0 a (done a)) i))
+    asked ∙ (λ i. asks g.node.0 (request.Enlist (the_tx u)) (λ a. again g u (met g.node.0 a (done a)) i))
 
 pub locks_next : (g : Goal) (u : Use) → has_node u.used g.node.0 ≡ true → nat_le most_locks u.locks ≡ false
     → locked g u ≡ asks g.node.0 (request.Lock (the_tx u) g.path g.mode) (once_done g.node.0 (behind_lock g) (with_lock u))
@@ -92,21 +84,22 @@ fetches_next node (path.Key p) u = λ i. asks node (request.Read (the_tx u) p) (
 
 -- ---- writes
 
-again_write : (node : ℕ) (c : Change) (u : Use) → has_node u.used node ≡ true → (r : Result (Unit {0}) Reply)
-    → going_on (λ r. and_then (λ _. pure got.Nothing) r.1 r.0) (and_then (λ _. λ u. expect done node (request.Write (the_tx u) c) u) u r)
-    ≡ and_then (λ _. written node c) u r
-again_write node c u has (Ok x) = rw has refl
-again_write node c u has (Err e) = refl
+again_write : (node : ℕ) (c : Change) (u : Use) (r : Result (Unit {0}) Reply)
+    → going_on (λ r. and_then (λ _. pure got.Nothing) r.1 r.0)
+    (going_on (λ r. and_then (λ _. λ u. expect done node (request.Write (the_tx u) c) u) r.1 r.0) (and_then (λ _. joining node) u r))
+    ≡ joined_or u.used (written node c) (with_branch node u) r
+again_write node c u (Ok x) = rw (with_it u.used node) refl
+again_write node c u (Err e) = refl
 
 abbrev by_set_write : ℕ → Change → Use → Bool → Talk Ended
 by_set_write node c u b = going_on (λ r. and_then (λ _. pure got.Nothing) r.1 r.0) (going_on (λ r. and_then (λ _. λ u. expect done node (request.Write (the_tx u) c) u) r.1 r.0)
-    (if b then says (Ok tt, u) else expect done node (request.Enlist (the_tx u)) (with_branch node u)))
+    (if b then says (Ok tt, u) else (expect done node (request.Enlist (the_tx u)) >> joining node) u))
 
 pub enlists_before_write : (node : ℕ) (c : Change) (u : Use) → has_node u.used node ≡ false
-    → written node c u ≡ asks node (request.Enlist (the_tx u)) (once_done node (written node c) (with_branch node u))
+    → written node c u ≡ asks node (request.Enlist (the_tx u)) (once_enlisted node u.used (written node c) (with_branch node u))
 enlists_before_write node c u free =
     let asked : written node c u ≡ by_set_write node c u false = ap (by_set_write node c u) free in
-    asked ∙ (λ i. asks node (request.Enlist (the_tx u)) (λ a. again_write node c (with_branch node u) (has_with u.used node free) (met node a (done a)) i))
+    asked ∙ (λ i. asks node (request.Enlist (the_tx u)) (λ a. again_write node c u (met node a (done a)) i))
 
 pub writes_next : (node : ℕ) (c : Change) (u : Use) → has_node u.used node ≡ true
     → written node c u ≡ asks node (request.Write (the_tx u) c) (once_done node (pure got.Nothing) u)

@@ -1,3 +1,4 @@
 pub mod Sequences
+pub mod Nodes
 pub mod Asking
 pub mod Bridges

@@ -1,5 +1,6 @@
 -- What is asked for one purpose, as a part of a plan: what is still to be said at each stage, and what follows an answer.
-use Rattle.std.specs.Prelude.{◌≡◌, ℕ, ◌+◌, ◌≤◌, nat_le, Bool, true, false, if◌then◌else◌, List, Option, Some, None, Result, Ok, Err, ⊤}
+use Rattle.std.specs.Prelude.{◌≡◌, ℕ, ◌+◌, ◌≤◌, ◌==◌, nat_le, Bool, true, false, not, ◌&&◌, ◌||◌, if◌then◌else◌, List, Option, Some, None, Result, Ok, Err, ⊤}
+use Rattle.std.specs.List.{list_all}
 use Rattle.hb_types.specs.declared.answer.Answer.{Answer}
 use Rattle.hb_types.specs.declared.answer.Answer.TheVariants as answer
 use Rattle.hb_types.specs.declared.change.Change.{Change}
@@ -10,8 +11,9 @@ use Rattle.hb_types.specs.declared.places.Path.{Path}
 use Rattle.hb_types.specs.declared.places.Path.TheVariants as path
 use Rattle.hb_types.specs.declared.request.Request.TheVariants as request
 use Rattle.hb_model.specs.Needs.{most_locks}
-use Rattle.hb_model.specs.NodeSets.{has_node, with_node}
+use Rattle.hb_model.specs.NodeSets.{has_node, with_node, nodes_in}
 use Rattle.hb_model.specs.declared.reply.Reply.{Reply}
+use Rattle.hb_talk.specs.Sessions.{rolls_back}
 use Rattle.hb_talk.specs.Talk.{Talk, says, asks, Use, Planning, ◌>>=◌, ◌>>◌, pure, and_then, met, done, the_row, the_rows, lock, read, scan, scan_group, write}
 use Rattle.hb_access.specs.declared.access.Next.{Next}
 use Rattle.hb_access.specs.declared.access.Next.TheVariants as next
@@ -25,6 +27,10 @@ use Rattle.hb_access.specs.declared.goal.Got.TheVariants as got
 use Rattle.hb_access.specs.declared.usage.Gate.{Gate}
 use Rattle.hb_access.specs.declared.usage.Gate.TheVariants as gate
 use Rattle.hb_access.specs.declared.usage.Usage.{Usage}
+
+-- ds or a back end
+abbrev pub IsServer : ℕ → Type 0
+IsServer node = (1 ≤ node) × (node ≤ 9)
 
 -- what the planning knows of a transaction
 abbrev pub use_of : Usage → Use
@@ -58,6 +64,14 @@ Ended = Result Got Reply × Use
 abbrev pub once_done : ℕ → Planning Got → Use → Answer → Talk Ended
 once_done node rest u a = and_then (λ _. rest) u (met node a (done a))
 
+-- what follows the answer of an Enlist: its node is used where it is Done, and else the nodes are those used before
+abbrev pub joined_or : ℕ → Planning Got → Use → Result (Unit {0}) Reply → Talk Ended
+joined_or before rest u (Ok x) = rest u
+joined_or before rest u (Err e) = says (Err e, record u { used = before })
+
+abbrev pub once_enlisted : ℕ → ℕ → Planning Got → Use → Answer → Talk Ended
+once_enlisted node before rest u a = joined_or before rest u (met node a (done a))
+
 abbrev pub as_row : Option (Option (List ℕ)) → Option Got
 as_row None = None
 as_row (Some row) = Some (got.Row row)
@@ -81,19 +95,19 @@ talk_at _ u = says (Ok got.Nothing, u)
 
 -- what follows the answer that is awaited
 abbrev pub hears_at : Stage → Use → Answer → Talk Ended
-hears_at (stage.Enlisting g) u = once_done g.node.0 (locked g) u
+hears_at (stage.Enlisting g before) u = once_enlisted g.node.0 before.0 (locked g) u
 hears_at (stage.Locking g) u = once_done g.node.0 (behind_lock g) u
 hears_at (stage.Fetching g) u = λ a. says (met g.node.0 a (found_under g.path a), u)
-hears_at (stage.EnlistingWrite node c) u = once_done node.0 (written node.0 c) u
+hears_at (stage.EnlistingWrite node c before) u = once_enlisted node.0 before.0 (written node.0 c) u
 hears_at (stage.Writing node) u = once_done node.0 (pure got.Nothing) u
 hears_at _ u = λ a. says (Ok got.Nothing, u)
 
 -- whether an answer is awaited
 abbrev pub is_waiting : Stage → Bool
-is_waiting (stage.Enlisting g) = true
+is_waiting (stage.Enlisting g before) = true
 is_waiting (stage.Locking g) = true
 is_waiting (stage.Fetching g) = true
-is_waiting (stage.EnlistingWrite node c) = true
+is_waiting (stage.EnlistingWrite node c before) = true
 is_waiting (stage.Writing node) = true
 is_waiting _ = false
 
@@ -104,17 +118,29 @@ is_asking (stage.Fetch g) = true
 is_asking (stage.Write node c) = true
 is_asking _ = false
 
--- nodes are fes1 to mgr, and changes have bytes
+-- nodes are ds and the back ends, and changes have bytes
 abbrev pub IsWithin : Stage → Type 0
-IsWithin (stage.Lock g) = g.node.0 ≤ 10
-IsWithin (stage.Fetch g) = g.node.0 ≤ 10
-IsWithin (stage.Write node c) = (node.0 ≤ 10) × IsChange c
-IsWithin (stage.Enlisting g) = g.node.0 ≤ 10
-IsWithin (stage.Locking g) = g.node.0 ≤ 10
-IsWithin (stage.Fetching g) = g.node.0 ≤ 10
-IsWithin (stage.EnlistingWrite node c) = (node.0 ≤ 10) × IsChange c
-IsWithin (stage.Writing node) = node.0 ≤ 10
+IsWithin (stage.Lock g) = IsServer g.node.0
+IsWithin (stage.Fetch g) = IsServer g.node.0
+IsWithin (stage.Write node c) = IsServer node.0 × IsChange c
+IsWithin (stage.Enlisting g before) = IsServer g.node.0
+IsWithin (stage.Locking g) = IsServer g.node.0
+IsWithin (stage.Fetching g) = IsServer g.node.0
+IsWithin (stage.EnlistingWrite node c before) = IsServer node.0 × IsChange c
+IsWithin (stage.Writing node) = IsServer node.0
 IsWithin stage.Ended = ⊤
+
+-- the node is among those used, from its Enlist on
+abbrev pub HasBranch : ℕ → Stage → Type 0
+HasBranch used (stage.Enlisting g before) = used ≡ with_node before.0 g.node.0
+HasBranch used (stage.EnlistingWrite node c before) = used ≡ with_node before.0 node.0
+HasBranch used (stage.Fetch g) = has_node used g.node.0 ≡ true
+HasBranch used (stage.Locking g) = has_node used g.node.0 ≡ true
+HasBranch used (stage.Fetching g) = has_node used g.node.0 ≡ true
+HasBranch used (stage.Writing node) = has_node used node.0 ≡ true
+HasBranch used (stage.Lock g) = ⊤
+HasBranch used (stage.Write node c) = ⊤
+HasBranch used stage.Ended = ⊤
 
 pub record Accessing : Type 0 where
   pub usage : Usage
@@ -139,14 +165,25 @@ abbrev pub NextIs : Accessing → Accessing → Next → Type 0
 NextIs old new (next.Ask node q) = (is_waiting new.stage ≡ true) × (now_talks old ≡ asks node.0 q (now_hears new))
 NextIs old new (next.Refused r) = now_talks old ≡ says (Err r, use_of new.usage)
 
--- the nodes that a transaction uses once this is asked: an Enlist adds its node, and nothing else does
+-- the nodes that a transaction uses or is to use once this is asked: an Enlist adds its node, and nothing else does
 unfoldable pub used_after : ℕ → Next → ℕ
 used_after used (next.Ask node (request.Enlist tx)) = with_node used node.0
 used_after used _ = used
 
--- what is asked is well formed
+-- what is asked is asked for the transaction: an Enlist where there is no branch yet, and what needs the branch where there is one
+unfoldable pub at_branch : Usage → Next → Bool
+at_branch u (next.Ask node (request.Enlist tx)) = (tx.0 == u.tx.0) && not (has_node u.used.0 node.0)
+at_branch u (next.Ask node (request.Lock tx path mode)) = (tx.0 == u.tx.0) && has_node u.used.0 node.0
+at_branch u (next.Ask node (request.Read tx place)) = (tx.0 == u.tx.0) && has_node u.used.0 node.0
+at_branch u (next.Ask node (request.Scan tx space)) = (tx.0 == u.tx.0) && has_node u.used.0 node.0
+at_branch u (next.Ask node (request.ScanGroup tx space group)) = (tx.0 == u.tx.0) && has_node u.used.0 node.0
+at_branch u (next.Ask node (request.Write tx change)) = (tx.0 == u.tx.0) && has_node u.used.0 node.0
+at_branch u (next.Ask node q) = false
+at_branch u (next.Refused r) = true
+
+-- what is asked is well formed, and asked of ds or a back end
 abbrev pub AsksSoundly : Next → Type 0
-AsksSoundly (next.Ask node q) = IsRequest q × (node.0 ≤ 10)
+AsksSoundly (next.Ask node q) = IsRequest q × IsServer node.0
 AsksSoundly (next.Refused r) = ⊤
 
 -- after an answer the access stands where its talk does
@@ -160,3 +197,15 @@ abbrev pub Brings : Answer → Taken → Type 0
 Brings a (taken.Came (got.Row row)) = a ≡ answer.Row row
 Brings a (taken.Came (got.Rows rows)) = a ≡ answer.Rows rows
 Brings a _ = ⊤
+
+-- whether an answer was one that rolls the transaction back
+abbrev pub rolls : Taken → Bool
+rolls (taken.Refused r) = rolls_back r
+rolls _ = false
+
+abbrev pub is_part : ℕ → ℕ → Bool
+is_part part whole = list_all (has_node whole) (nodes_in part)
+
+-- the nodes used stay; only where the transaction is rolled back may one be left out, whose Enlist was refused
+unfoldable pub keeps_nodes : ℕ → ℕ → Bool → Bool
+keeps_nodes old new rolls = (new == old) || (rolls && is_part new old)

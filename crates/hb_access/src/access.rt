@@ -1,34 +1,32 @@
 // An access: what it asks next, and what it makes of the answer.
-ghost use Rattle.std.specs.Prelude.{◌≡◌, ◌≤◌, true};
-ghost use Rattle.hb_types.specs.declared.answer.Answer.{Answer as Given};
+ghost use Rattle.std.specs.Prelude.{◌≡◌, true};
 ghost use Rattle.hb_types.specs.declared.change.Change.{Change as Written};
+ghost use Rattle.hb_model.specs.NodeSets.{has_node};
 ghost use Rattle.hb_types.specs.Numbers.{IsNumber};
 ghost use Rattle.hb_types.specs.Records.{IsChange};
-ghost use Rattle.hb_talk.specs.Talk.{the_rows};
-ghost use Rattle.hb_access.specs.Accesses.{is_asking, is_waiting, now_talks, use_of, locked, written, found_under, as_rows, NextIs, Hears, Brings, AsksSoundly, used_after};
+ghost use Rattle.hb_access.specs.Accesses.{is_asking, is_waiting, now_talks, use_of, locked, written, NextIs, Hears, Brings, AsksSoundly, used_after, at_branch, keeps_nodes, rolls, IsServer};
 ghost use Rattle.hb_access.specs.declared.access.Stage.TheVariants as stage;
 
 use crate::goal::{Goal, Got};
-use crate::refusing::refusal;
 use crate::usage::{Gate, Usage};
 use hb_model::Reply;
-use hb_types::{Answer, Change, NodeName, Path, Request};
+use hb_types::{Answer, Change, Left, NodeName, Path, Request};
 use std::marker::Model;
 
 /// What is asked next, or which answer is awaited.
 #[derive(Drop)]
 pub enum Stage {
     Lock(Goal),
-    /// The branch of a lock is awaited.
-    Enlisting(Goal),
+    /// The branch of a lock is awaited; the nodes are those used before.
+    Enlisting(Goal, Left),
     /// The lock is awaited.
     Locking(Goal),
     Fetch(Goal),
     /// What lies under the path is awaited.
     Fetching(Goal),
     Write(NodeName, Change),
-    /// The branch of a write is awaited.
-    EnlistingWrite(NodeName, Change),
+    /// The branch of a write is awaited; the nodes are those used before.
+    EnlistingWrite(NodeName, Change, Left),
     /// The write is awaited.
     Writing(NodeName),
     Ended,
@@ -53,24 +51,24 @@ pub enum Taken {
 /// A lock with what lies under it, or a write.
 #[derive(Drop)]
 pub struct Access {
-    usage: Usage,
-    stage: Stage,
+    pub(crate) usage: Usage,
+    pub(crate) stage: Stage,
 }
 
 impl Model for Access {
-    ghost use Rattle.hb_access.specs.Accesses.{Accessing, IsWithin};
+    ghost use Rattle.hb_access.specs.Accesses.{Accessing, HasBranch, IsWithin};
 
     ghost Value = { Accessing };
 
     ghost view = { λ a. record { usage = a.usage; stage = a.stage } };
 
-    ghost invariant = { λ a. IsWithin a.stage };
+    ghost invariant = { λ a. IsWithin a.stage × HasBranch a.usage.used.0 a.stage };
 }
 
 impl Access {
     /// A lock and, where the goal reads, what lies under it.
     pub fn lock(usage: Usage, goal: Goal) -> Access
-        requires { goal.node.0 ≤ 10 }
+        requires { IsServer goal.node.0 }
         ensures usage { result.usage ≡ usage }
         ensures asking { is_asking result.stage ≡ true }
         ensures talk { now_talks result ≡ locked goal (use_of usage) }
@@ -81,7 +79,7 @@ impl Access {
 
     /// A write of a change.
     pub fn write(usage: Usage, node: NodeName, change: Change) -> Access
-        requires node { node.0 ≤ 10 }
+        requires node { IsServer node.0 }
         requires change { IsChange change }
         ensures usage { result.usage ≡ usage }
         ensures asking { is_asking result.stage ≡ true }
@@ -104,6 +102,7 @@ impl Access {
         ensures next { NextIs self.old self.new result }
         ensures tx { self.new.usage.tx.0 ≡ self.old.usage.tx.0 }
         ensures used { self.new.usage.used.0 ≡ used_after self.old.usage.used.0 result }
+        ensures branch { at_branch self.old.usage result ≡ true }
         ensures sound { IsNumber self.old.usage.tx.0 → AsksSoundly result }
     {
         match self.stage {
@@ -114,19 +113,21 @@ impl Access {
         }
     }
 
-    #[tactic(auto, unfolding(crate::specs::Accesses::used_after))]
+    #[tactic(auto, unfolding(crate::specs::Accesses::used_after, crate::specs::Accesses::at_branch))]
     fn ask_lock(&mut self, goal: Goal) -> Next
         requires stage { self.old.stage ≡ stage.Lock goal }
-        requires within { goal.node.0 ≤ 10 }
+        requires within { IsServer goal.node.0 }
         ensures next { NextIs self.old self.new result }
         ensures tx { self.new.usage.tx.0 ≡ self.old.usage.tx.0 }
         ensures used { self.new.usage.used.0 ≡ used_after self.old.usage.used.0 result }
+        ensures branch { at_branch self.old.usage result ≡ true }
         ensures sound { IsNumber self.old.usage.tx.0 → AsksSoundly result }
     {
         let tx = self.usage.tx;
+        let before = self.usage.used;
         match self.usage.gate(goal.node) {
             Gate::Enlist => {
-                self.stage = Stage::Enlisting(goal);
+                self.stage = Stage::Enlisting(goal, before);
                 Next::Ask(goal.node, Request::Enlist { tx })
             }
             Gate::Lock => {
@@ -144,13 +145,15 @@ impl Access {
         }
     }
 
-    #[tactic(auto, unfolding(crate::specs::Accesses::used_after))]
+    #[tactic(auto, unfolding(crate::specs::Accesses::used_after, crate::specs::Accesses::at_branch))]
     fn ask_fetch(&mut self, goal: Goal) -> Next
         requires stage { self.old.stage ≡ stage.Fetch goal }
-        requires within { goal.node.0 ≤ 10 }
+        requires within { IsServer goal.node.0 }
+        requires branch { has_node self.old.usage.used.0 goal.node.0 ≡ true }
         ensures next { NextIs self.old self.new result }
         ensures tx { self.new.usage.tx.0 ≡ self.old.usage.tx.0 }
         ensures used { self.new.usage.used.0 ≡ used_after self.old.usage.used.0 result }
+        ensures branch { at_branch self.old.usage result ≡ true }
         ensures sound { IsNumber self.old.usage.tx.0 → AsksSoundly result }
     {
         let tx = self.usage.tx;
@@ -163,21 +166,23 @@ impl Access {
         Next::Ask(goal.node, request)
     }
 
-    #[tactic(auto, unfolding(crate::specs::Accesses::used_after))]
+    #[tactic(auto, unfolding(crate::specs::Accesses::used_after, crate::specs::Accesses::at_branch))]
     fn ask_write(&mut self, node: NodeName) -> Next
         requires stage { (c : Written) × (self.old.stage ≡ stage.Write node c) × IsChange c }
-        requires within { node.0 ≤ 10 }
+        requires within { IsServer node.0 }
         ensures next { NextIs self.old self.new result }
         ensures tx { self.new.usage.tx.0 ≡ self.old.usage.tx.0 }
         ensures used { self.new.usage.used.0 ≡ used_after self.old.usage.used.0 result }
+        ensures branch { at_branch self.old.usage result ≡ true }
         ensures sound { IsNumber self.old.usage.tx.0 → AsksSoundly result }
     {
         let tx = self.usage.tx;
+        let before = self.usage.used;
         let enlists = self.usage.enlist(node);
         match std::mem::replace(&mut self.stage, Stage::Writing(node)) {
             Stage::Write(_, change) => {
                 if enlists {
-                    self.stage = Stage::EnlistingWrite(node, change);
+                    self.stage = Stage::EnlistingWrite(node, change, before);
                     Next::Ask(node, Request::Enlist { tx })
                 } else {
                     Next::Ask(node, Request::Write { tx, change })
@@ -193,116 +198,17 @@ impl Access {
         ensures hears { Hears self.old self.new answer result }
         ensures brings { Brings answer result }
         ensures tx { self.new.usage.tx.0 ≡ self.old.usage.tx.0 }
-        ensures used { self.new.usage.used.0 ≡ self.old.usage.used.0 }
+        ensures used { keeps_nodes self.old.usage.used.0 self.new.usage.used.0 (rolls result) ≡ true }
     {
         match self.stage {
-            Stage::Enlisting(goal) => self.take_enlist(goal, answer),
+            Stage::Enlisting(goal, before) => self.take_enlist(goal, before, answer),
             Stage::Locking(goal) => self.take_lock(goal, answer),
             Stage::Fetching(goal) => self.take_found(goal, answer),
-            Stage::EnlistingWrite(node, _) => self.take_enlist_of_write(node, answer),
+            Stage::EnlistingWrite(node, _, before) => self.take_enlist_of_write(
+                node, before, answer,
+            ),
             Stage::Writing(node) => self.take_write(node, answer),
             _ => Taken::More,
-        }
-    }
-
-    fn take_enlist(&mut self, goal: Goal, answer: Answer) -> Taken
-        requires stage { self.old.stage ≡ stage.Enlisting goal }
-        requires within { goal.node.0 ≤ 10 }
-        ensures hears { Hears self.old self.new answer result }
-        ensures brings { Brings answer result }
-        ensures tx { self.new.usage.tx.0 ≡ self.old.usage.tx.0 }
-        ensures used { self.new.usage.used.0 ≡ self.old.usage.used.0 }
-    {
-        match answer {
-            Answer::Done => {
-                self.stage = Stage::Lock(goal);
-                Taken::More
-            }
-            other => Taken::Refused(refusal(goal.node, other)),
-        }
-    }
-
-    fn take_lock(&mut self, goal: Goal, answer: Answer) -> Taken
-        requires stage { self.old.stage ≡ stage.Locking goal }
-        requires within { goal.node.0 ≤ 10 }
-        ensures hears { Hears self.old self.new answer result }
-        ensures brings { Brings answer result }
-        ensures tx { self.new.usage.tx.0 ≡ self.old.usage.tx.0 }
-        ensures used { self.new.usage.used.0 ≡ self.old.usage.used.0 }
-    {
-        match answer {
-            Answer::Done => {
-                if goal.reads {
-                    self.stage = Stage::Fetch(goal);
-                    Taken::More
-                } else {
-                    Taken::Came(Got::Nothing)
-                }
-            }
-            other => Taken::Refused(refusal(goal.node, other)),
-        }
-    }
-
-    fn take_found(&mut self, goal: Goal, answer: Answer) -> Taken
-        requires { self.old.stage ≡ stage.Fetching goal }
-        ensures hears { Hears self.old self.new answer result }
-        ensures brings { Brings answer result }
-        ensures tx { self.new.usage.tx.0 ≡ self.old.usage.tx.0 }
-        ensures used { self.new.usage.used.0 ≡ self.old.usage.used.0 }
-    {
-        match goal.path {
-            Path::Key(_) => match answer {
-                Answer::Row(row) => Taken::Came(Got::Row(row)),
-                other => Taken::Refused(refusal(goal.node, other)),
-            },
-            Path::Whole(_) | Path::Group(_, _) => self.take_rows(goal, answer),
-        }
-    }
-
-    fn take_rows(&mut self, goal: Goal, answer: Answer) -> Taken
-        requires stage { self.old.stage ≡ stage.Fetching goal }
-        requires rows { (a : Given) → found_under goal.path a ≡ as_rows (the_rows a) }
-        ensures hears { Hears self.old self.new answer result }
-        ensures brings { Brings answer result }
-        ensures tx { self.new.usage.tx.0 ≡ self.old.usage.tx.0 }
-        ensures used { self.new.usage.used.0 ≡ self.old.usage.used.0 }
-    {
-        match answer {
-            Answer::Rows(rows) => Taken::Came(Got::Rows(rows)),
-            other => Taken::Refused(refusal(goal.node, other)),
-        }
-    }
-
-    fn take_enlist_of_write(&mut self, node: NodeName, answer: Answer) -> Taken
-        requires stage { (c : Written) × (self.old.stage ≡ stage.EnlistingWrite node c) × IsChange c }
-        requires within { node.0 ≤ 10 }
-        ensures hears { Hears self.old self.new answer result }
-        ensures brings { Brings answer result }
-        ensures tx { self.new.usage.tx.0 ≡ self.old.usage.tx.0 }
-        ensures used { self.new.usage.used.0 ≡ self.old.usage.used.0 }
-    {
-        match answer {
-            Answer::Done => {
-                match std::mem::replace(&mut self.stage, Stage::Ended) {
-                    Stage::EnlistingWrite(_, change) => self.stage = Stage::Write(node, change),
-                    _ => {}
-                }
-                Taken::More
-            }
-            other => Taken::Refused(refusal(node, other)),
-        }
-    }
-
-    fn take_write(&mut self, node: NodeName, answer: Answer) -> Taken
-        requires { self.old.stage ≡ stage.Writing node }
-        ensures hears { Hears self.old self.new answer result }
-        ensures brings { Brings answer result }
-        ensures tx { self.new.usage.tx.0 ≡ self.old.usage.tx.0 }
-        ensures used { self.new.usage.used.0 ≡ self.old.usage.used.0 }
-    {
-        match answer {
-            Answer::Done => Taken::Came(Got::Nothing),
-            other => Taken::Refused(refusal(node, other)),
         }
     }
 }

@@ -4,6 +4,7 @@
 mod access;
 mod goal;
 mod refusing;
+mod taking;
 mod usage;
 
 pub use access::{Access, Next, Taken};

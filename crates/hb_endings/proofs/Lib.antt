@@ -1,3 +1,4 @@
+pub mod Nodes
 pub mod Ends
 pub mod Assigned
 pub mod FitRows

@@ -18,6 +18,7 @@ use Rattle.hb_sqlrow.specs.declared.fault.SetFault.TheVariants as fault
 use Rattle.hb_sqlrow.specs.Refused.{IsReplyOf}
 use Rattle.hb_writes.specs.Underway.{IsWrite}
 use Rattle.hb_endings.proofs.Ends.{length-mapped}
+use Rattle.hb_endings.proofs.Nodes.{first_node}
 use Rattle.hb_endings.specs.Kept.{Keeps}
 use Rattle.hb_endings.specs.Rows.{IsFit, Suits, chosen_of, is_unknown}
 
@@ -137,4 +138,4 @@ updates_step t sets ls i l changes new c lt at before is write accepted put =
 
 pub removing_writes : (t : Table) (ls : List Lying) → Each (IsFit t) ls → Each IsWrite (map (λ l. removing l.0) ls)
 removing_writes t [] each = tt
-removing_writes t (l ∷ ls) each = (((each.0.0, tt), omega (arith, each.0.1.0)), removing_writes t ls each.1)
+removing_writes t (l ∷ ls) each = (((each.0.0, tt), (first_node l.0.space.area, each.0.1.0)), removing_writes t ls each.1)

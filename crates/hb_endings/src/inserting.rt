@@ -24,7 +24,7 @@ use std::alloc::Global;
 fn target(entry: Entry) -> u16
     requires { AreSited entry }
     ensures area { result ≡ target_of entry }
-    ensures sited { node_of_area result ≤ 10 }
+    ensures sited { (1 ≤ node_of_area result) × (node_of_area result ≤ 9) }
 {
     match entry {
         Entry::At(area) => area,

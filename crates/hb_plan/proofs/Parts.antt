@@ -1,15 +1,11 @@
 -- What the parts' machines ask and hear is what the plan asks and hears.
 use Rattle.std.proofs.Common.{◌≡◌, ◌≢◌, ◌⊎◌, inl, inr, Bool, true, false, true≢false, Err, refl, ap, sym, ◌∙◌, subst}
 use Rattle.hb_types.specs.declared.answer.Answer.{Answer}
-use Rattle.hb_types.specs.declared.names.Left.{Left}
-use Rattle.hb_types.specs.declared.request.Request.TheVariants as request
 use Rattle.hb_model.specs.declared.reply.Reply.{Reply}
 use Rattle.hb_model.specs.declared.reply.Reply.TheVariants as reply
 use Rattle.hb_talk.specs.Talk.{Talk, says, Use}
 use Rattle.hb_access.specs.declared.access.Next.{Next}
 use Rattle.hb_access.specs.declared.access.Next.TheVariants as next
-use Rattle.hb_access.specs.declared.usage.Usage.{Usage}
-use Rattle.hb_access.specs.Accesses.{used_after}
 use Rattle.hb_planquery.specs.QueryPlans.{Querying}
 use Rattle.hb_planquery.specs.QueryPlans as query
 use Rattle.hb_planquery.specs.declared.query_plan.Taken.{Taken as QueryTaken}
@@ -22,7 +18,7 @@ use Rattle.hb_plan.specs.declared.stage.Taken.{Taken}
 use Rattle.hb_plan.specs.declared.stage.Taken.TheVariants as taken
 use Rattle.hb_plan.specs.declared.stage.Stage.{Stage}
 use Rattle.hb_plan.specs.declared.stage.Stage.TheVariants as stage
-use Rattle.hb_plan.specs.Planned.{Planned, Said, IsRefused, StageNext, StageHears, StageAsksOn, NextIs, Hears, AsksOn, IsTold, ToldAt, planned_at, of_query, of_define, is_asking, is_waiting, asking_at, waiting_at, now_talks, now_hears, IsAtServer, Uses}
+use Rattle.hb_plan.specs.Planned.{Planned, Said, IsRefused, StageNext, StageHears, StageAsksOn, NextIs, Hears, AsksOn, IsTold, ToldAt, planned_at, of_query, of_define, is_asking, is_waiting, asking_at, waiting_at, now_talks, now_hears}
 
 is_none : Reply → Bool
 is_none reply.NoMemory = true
@@ -121,18 +117,3 @@ plan_asks_on new t u is h = subst (λ p. AsksOn p u) is (at u h)
     at taken.More h = h
     at (taken.Replied r) h = h
     at (taken.Refused r) h = h
-
--- ---- which nodes are used
-
-same_set : (a b : Left) → a.0 ≡ b.0 → a ≡ b
-same_set a b e = ap (λ n. record { 0 = n }) e
-
--- what a request makes of the nodes that are used, where it makes no branch but at a server
-pub uses : (old new : Usage) (n : Next) → new.used.0 ≡ used_after old.used.0 n → IsAtServer n → Uses old new n
-unfolding used_after
-uses old new (next.Ask node (request.Enlist tx)) e at = (e, at.0, at.1)
-uses old new (next.Ask node q) e at = same_set new.used old.used e
-uses old new (next.Refused r) e at = same_set new.used old.used e
-
-pub set_kept : (old new : Usage) → new.used.0 ≡ old.used.0 → new.used ≡ old.used
-set_kept old new e = same_set new.used old.used e

@@ -1,12 +1,11 @@
 -- A statement's plan: what is still to be said at each of its moments, and what follows an answer.
-use Rattle.std.specs.Prelude.{◌≡◌, ◌≤◌, ℕ, Bool, true, false, ◌⊎◌, Result, Ok, Err, ⊤}
+use Rattle.std.specs.Prelude.{◌≡◌, Bool, true, false, ◌⊎◌, Result, Ok, Err, ⊤}
 use Rattle.hb_types.specs.declared.answer.Answer.{Answer}
-use Rattle.hb_types.specs.declared.request.Request.TheVariants as request
-use Rattle.hb_model.specs.NodeSets.{with_node}
 use Rattle.hb_model.specs.declared.reply.Reply.{Reply}
 use Rattle.hb_model.specs.declared.reply.Reply.TheVariants as reply
 use Rattle.hb_model.specs.declared.statement.Statement.{Statement}
 use Rattle.hb_model.specs.declared.statement.Statement.TheVariants as statement
+use Rattle.hb_talk.specs.Sessions.{rolls_back}
 use Rattle.hb_talk.specs.Talk.{Talk, says, asks, Use}
 use Rattle.hb_access.specs.Accesses.{use_of}
 use Rattle.hb_access.specs.declared.access.Next.{Next}
@@ -110,20 +109,6 @@ abbrev pub StageNext : Stage → Stage → Next → Type 0
 StageNext old new (next.Ask node q) = (waiting_at new ≡ true) × (talks_at old ≡ asks node.0 q (hears_at new))
 StageNext old new (next.Refused r) = IsRefused (talks_at old) r (use_of (usage_at new))
 
--- ds or a back end
-abbrev pub IsServer : ℕ → Type 0
-IsServer node = (1 ≤ node) × (node ≤ 9)
-
--- a branch that is made is made at ds or a back end
-abbrev pub IsAtServer : Next → Type 0
-IsAtServer (next.Ask node (request.Enlist tx)) = IsServer node.0
-IsAtServer _ = ⊤
-
--- a transaction's nodes: one more exactly where an Enlist is asked, of ds or of a back end
-abbrev pub Uses : Usage → Usage → Next → Type 0
-Uses old new (next.Ask node (request.Enlist tx)) = (new.used.0 ≡ with_node old.used.0 node.0) × (1 ≤ node.0) × (node.0 ≤ 9)
-Uses old new _ = new.used ≡ old.used
-
 -- after an answer the plan stands where its talk does
 abbrev pub Hears : Planned → Planned → Answer → Taken → Type 0
 Hears old new a taken.More = (is_asking new ≡ true) × (now_hears old a ≡ now_talks new)
@@ -143,6 +128,12 @@ AsksOn new _ = ⊤
 abbrev pub StageAsksOn : Stage → Taken → Type 0
 StageAsksOn new taken.More = asking_at new ≡ true
 StageAsksOn new _ = ⊤
+
+-- whether an answer was one that rolls the transaction back
+abbrev pub rolls : Taken → Bool
+rolls taken.More = false
+rolls (taken.Replied r) = false
+rolls (taken.Refused r) = rolls_back r
 
 -- what the parts' answers are here
 abbrev pub of_query : QueryTaken → Taken

@@ -174,8 +174,8 @@ fn take(plan: &mut Plan, answer: Answer) -> End
     }
 }
 
-// Asks for one request, which is to be this one, and takes its answer.
-fn ask(plan: &mut Plan, step: Step, answer: Answer) -> End
+/// Asks for one request, which is to be this one, and takes its answer.
+pub(crate) fn ask(plan: &mut Plan, step: Step, answer: Answer) -> End
     requires asking { is_asking plan.old ≡ true }
     requires answer { IsAnswer answer }
     ensures { result ≡ End.Open → is_asking plan.new ≡ true }
@@ -226,6 +226,21 @@ fn run_alone(alloc: Global, plan: Plan, steps: &[Step], rows: &[Lies]) -> (usize
     run_on(alloc, &mut plan, steps, rows)
 }
 
+/// The plan of the first statement of a transaction, with two back ends.
+pub(crate) fn begun(alloc: Global, statement: Statement) -> Result<Plan, NoMemory>
+    requires planned { is_planned statement ≡ true }
+    requires plain { IsTrue (is_plain statement) }
+    ensures { IfOk result (λ p. is_asking p ≡ true) }
+{
+    let usage = Usage {
+        tx: TX,
+        used: Left(0),
+        locks: 0,
+        bytes: 0,
+    };
+    Plan::begin(alloc, usage, 2, statement)
+}
+
 /// How many of these steps the first statement of a transaction takes over nodes with these rows, and how it ends.
 pub(crate) fn run(
     alloc: Global,
@@ -236,12 +251,6 @@ pub(crate) fn run(
     requires planned { is_planned statement ≡ true }
     requires plain { IsTrue (is_plain statement) }
 {
-    let usage = Usage {
-        tx: TX,
-        used: Left(0),
-        locks: 0,
-        bytes: 0,
-    };
-    let plan = Plan::begin(alloc, usage, 2, statement)?;
+    let plan = begun(alloc, statement)?;
     Ok(run_alone(alloc, plan, steps, rows))
 }

@@ -2,7 +2,6 @@
 #![tactic(auto)]
 
 mod begins;
-mod branches;
 mod machine;
 mod stage;
 
@@ -11,6 +10,8 @@ pub use stage::Taken;
 
 #[cfg(test)]
 mod asking;
+#[cfg(test)]
+mod joining;
 #[cfg(test)]
 mod statements;
 #[cfg(test)]

@@ -4,8 +4,8 @@ ghost use Rattle.hb_types.specs.Calls.{IsAnswer};
 ghost use Rattle.hb_types.specs.Numbers.{IsNumber};
 ghost use Rattle.hb_model.specs.Plain.{is_plain};
 ghost use Rattle.hb_talk.specs.PlansDefine.{plan};
-ghost use Rattle.hb_access.specs.Accesses.{use_of, AsksSoundly};
-ghost use Rattle.hb_plan.specs.Planned.{is_planned, is_asking, is_waiting, now_talks, AsksOn, Hears, IsCounted, IsTold, NextIs, Uses};
+ghost use Rattle.hb_access.specs.Accesses.{use_of, used_after, at_branch, keeps_nodes, AsksSoundly};
+ghost use Rattle.hb_plan.specs.Planned.{is_planned, is_asking, is_waiting, now_talks, rolls, AsksOn, Hears, IsCounted, IsTold, NextIs};
 
 use crate::begins::stage_of;
 use crate::stage::{Stage, Taken};
@@ -71,7 +71,8 @@ impl Plan {
         ensures next { NextIs self.old self.new result }
         ensures counted { IsCounted self.new }
         ensures tx { self.new.usage.tx.0 ≡ self.old.usage.tx.0 }
-        ensures used { Uses self.old.usage self.new.usage result }
+        ensures used { self.new.usage.used.0 ≡ used_after self.old.usage.used.0 result }
+        ensures branch { at_branch self.old.usage result ≡ true }
         ensures sound { IsNumber self.old.usage.tx.0 → AsksSoundly result }
     {
         self.stage.next()
@@ -85,7 +86,7 @@ impl Plan {
         ensures asking { AsksOn self.new result }
         ensures counted { IsCounted self.new }
         ensures tx { self.new.usage.tx.0 ≡ self.old.usage.tx.0 }
-        ensures used { self.new.usage.used ≡ self.old.usage.used }
+        ensures used { keeps_nodes self.old.usage.used.0 self.new.usage.used.0 (rolls result) ≡ true }
     {
         self.stage.take(answer)
     }

@@ -1,15 +1,14 @@
 // Where a plan stands: what it asks next, and what it makes of the answer.
 ghost use Rattle.std.specs.Prelude.{◌≡◌, true};
 ghost use Rattle.hb_types.specs.Numbers.{IsNumber};
-ghost use Rattle.hb_access.specs.Accesses.{AsksSoundly, used_after};
+ghost use Rattle.hb_access.specs.Accesses.{AsksSoundly, used_after, at_branch, keeps_nodes};
 ghost use Rattle.hb_planquery.specs.QueryPlans.{is_asking as query_asks, is_waiting as query_waits, uses as query_uses};
 ghost use Rattle.hb_plandefine.specs.Defines.{is_asking as define_asks, is_waiting as define_waits, usage_at as define_uses};
-ghost use Rattle.hb_plan.specs.Planned.{asking_at, of_define, of_query, usage_at, waiting_at, StageAsksOn, StageHears, StageNext, ToldAt, Uses};
+ghost use Rattle.hb_plan.specs.Planned.{asking_at, of_define, of_query, rolls, usage_at, waiting_at, StageAsksOn, StageHears, StageNext, ToldAt};
 ghost use Rattle.hb_plan.specs.declared.stage.Stage.TheVariants as stage;
 ghost use Rattle.hb_plan.specs.declared.stage.Taken.TheVariants as taken_as;
 ghost use Rattle.hb_model.specs.declared.reply.Reply.TheVariants as no_memory;
 
-use crate::branches::is_at_server;
 use hb_access::{Next, Usage};
 use hb_model::Reply;
 use hb_plandefine::Defining;
@@ -61,6 +60,7 @@ fn query_next(plan: &mut QueryPlan) -> Next
     ensures next { StageNext (stage.Query plan.old) (stage.Query plan.new) result }
     ensures tx { (query_uses plan.new).tx.0 ≡ (query_uses plan.old).tx.0 }
     ensures used { (query_uses plan.new).used.0 ≡ used_after (query_uses plan.old).used.0 result }
+    ensures branch { at_branch (query_uses plan.old) result ≡ true }
     ensures sound { IsNumber (query_uses plan.old).tx.0 → AsksSoundly result }
 {
     plan.next()
@@ -72,6 +72,7 @@ fn define_next(plan: &mut Defining) -> Next
     ensures next { StageNext (stage.Define plan.old) (stage.Define plan.new) result }
     ensures tx { (define_uses plan.new).tx.0 ≡ (define_uses plan.old).tx.0 }
     ensures used { (define_uses plan.new).used.0 ≡ used_after (define_uses plan.old).used.0 result }
+    ensures branch { at_branch (define_uses plan.old) result ≡ true }
     ensures sound { IsNumber (define_uses plan.old).tx.0 → AsksSoundly result }
 {
     plan.next()
@@ -83,7 +84,7 @@ fn query_take(plan: &mut QueryPlan, answer: Answer) -> Taken
     ensures hears { ToldAt (stage.Query plan.old) answer → StageHears (stage.Query plan.old) (stage.Query plan.new) answer result }
     ensures asking { StageAsksOn (stage.Query plan.new) result }
     ensures tx { (query_uses plan.new).tx.0 ≡ (query_uses plan.old).tx.0 }
-    ensures used { (query_uses plan.new).used.0 ≡ (query_uses plan.old).used.0 }
+    ensures used { keeps_nodes (query_uses plan.old).used.0 (query_uses plan.new).used.0 (rolls result) ≡ true }
 {
     of_a_query(plan.take(answer))
 }
@@ -94,7 +95,7 @@ fn define_take(plan: &mut Defining, answer: Answer) -> Taken
     ensures hears { ToldAt (stage.Define plan.old) answer → StageHears (stage.Define plan.old) (stage.Define plan.new) answer result }
     ensures asking { StageAsksOn (stage.Define plan.new) result }
     ensures tx { (define_uses plan.new).tx.0 ≡ (define_uses plan.old).tx.0 }
-    ensures used { (define_uses plan.new).used.0 ≡ (define_uses plan.old).used.0 }
+    ensures used { keeps_nodes (define_uses plan.old).used.0 (define_uses plan.new).used.0 (rolls result) ≡ true }
 {
     of_a_define(plan.take(answer))
 }
@@ -110,11 +111,13 @@ impl Stage {
         }
     }
 
-    fn ask(&mut self) -> Next
+    /// What is asked next.
+    pub(crate) fn next(&mut self) -> Next
         requires { asking_at self.old ≡ true }
         ensures next { StageNext self.old self.new result }
         ensures tx { (usage_at self.new).tx.0 ≡ (usage_at self.old).tx.0 }
         ensures used { (usage_at self.new).used.0 ≡ used_after (usage_at self.old).used.0 result }
+        ensures branch { at_branch (usage_at self.old) result ≡ true }
         ensures sound { IsNumber (usage_at self.old).tx.0 → AsksSoundly result }
     {
         match self {
@@ -124,37 +127,13 @@ impl Stage {
         }
     }
 
-    // Ends the plan, with what was used.
-    fn end(&mut self, usage: Usage)
-        ensures { self.new ≡ stage.Ended usage }
-    {
-        *self = Stage::Ended(usage);
-    }
-
-    /// What is asked next. It makes a branch at ds or a back end alone.
-    pub(crate) fn next(&mut self) -> Next
-        requires { asking_at self.old ≡ true }
-        ensures next { StageNext self.old self.new result }
-        ensures tx { (usage_at self.new).tx.0 ≡ (usage_at self.old).tx.0 }
-        ensures used { Uses (usage_at self.old) (usage_at self.new) result }
-        ensures sound { IsNumber (usage_at self.old).tx.0 → AsksSoundly result }
-    {
-        let usage = self.usage();
-        let next = self.ask();
-        if is_at_server(&next) {
-            return next;
-        }
-        self.end(usage);
-        Next::Refused(Reply::NoMemory)
-    }
-
     /// Takes the answer to what was asked.
     pub(crate) fn take(&mut self, answer: Answer) -> Taken
         requires { waiting_at self.old ≡ true }
         ensures hears { ToldAt self.old answer → StageHears self.old self.new answer result }
         ensures asking { StageAsksOn self.new result }
         ensures tx { (usage_at self.new).tx.0 ≡ (usage_at self.old).tx.0 }
-        ensures used { (usage_at self.new).used.0 ≡ (usage_at self.old).used.0 }
+        ensures used { keeps_nodes (usage_at self.old).used.0 (usage_at self.new).used.0 (rolls result) ≡ true }
     {
         match self {
             Stage::Query(plan) => query_take(plan, answer),

@@ -1,16 +1,18 @@
 -- Where a statement stands behind a step of what is under way.
-use Rattle.std.proofs.Common.{◌≡◌, Ok, Err, inl, ap, sym, ◌∙◌, subst}
+use Rattle.std.proofs.Common.{◌≡◌, true, false, Ok, Err, inl, ap, sym, ◌∙◌, subst}
 use Rattle.hb_types.specs.declared.answer.Answer.{Answer}
 use Rattle.hb_model.specs.declared.reply.Reply.{Reply}
+use Rattle.hb_talk.specs.Sessions.{rolls_back}
 use Rattle.hb_talk.specs.Talk.{Talk, says}
 use Rattle.hb_access.specs.declared.access.Next.{Next}
 use Rattle.hb_access.specs.declared.access.Next.TheVariants as next
-use Rattle.hb_access.specs.Accesses.{Accessing, Ended, use_of}
+use Rattle.hb_access.specs.Accesses.{Accessing, Ended, use_of, keeps_nodes}
 use Rattle.hb_access.specs.Accesses as access
 use Rattle.hb_access.specs.declared.access.Taken.TheVariants as came
 use Rattle.hb_access.specs.declared.goal.Got.{Got}
 use Rattle.hb_access.specs.declared.goal.Got.TheVariants as got
 use Rattle.hb_access.specs.declared.usage.Usage.{Usage}
+use Rattle.hb_access.proofs.Nodes.{goes_on}
 use Rattle.hb_writes.specs.Underway.{Underway}
 use Rattle.hb_writes.specs.Writings.{Replied}
 use Rattle.hb_writes.specs.Writings as out
@@ -21,7 +23,7 @@ use Rattle.hb_plandefine.specs.declared.stage.Stage.TheVariants as stage
 use Rattle.hb_plandefine.specs.declared.stage.Went.{Went}
 use Rattle.hb_plandefine.specs.declared.stage.Went.TheVariants as went
 use Rattle.hb_plandefine.specs.declared.stage.Then.{Then}
-use Rattle.hb_plandefine.specs.Defines.{Goes, Hears, NextIs, Tells, TellsGot, WentTo, follows, now_hears, now_talks}
+use Rattle.hb_plandefine.specs.Defines.{Goes, Hears, IsHeard, IsReady, NextIs, Tells, TellsGot, WentTo, follows, now_hears, now_talks, rolls, usage_at}
 use Rattle.hb_plandefine.proofs.Asking.{follow}
 
 pub next_asked : (old new : Accessing) (t : Then) (n : Next) → access.NextIs old new n → NextIs (stage.Asking old t) (stage.Asking new t) n
@@ -58,3 +60,22 @@ went_hears old new x (went.Replied r u) t goes to =
     subst (λ (y : Taken). Hears old new x y) (sym to.1) (subst (λ (s : Stage). Hears old s x (taken.Replied r)) (sym to.0) goes)
 went_hears old new x (went.Refused r u) t goes to =
     subst (λ (y : Taken). Hears old new x y) (sym to.1) (subst (λ (s : Stage). Hears old s x (taken.Refused r)) (sym to.0) goes)
+
+-- ---- the nodes behind an answer
+
+-- behind an answer that was no refusal, what goes on with the same nodes
+pub heard : (old mid : Usage) (w : Went) → mid.tx.0 ≡ old.tx.0 → keeps_nodes old.used.0 mid.used.0 false ≡ true → IsReady mid w → IsHeard old w
+heard old mid (went.On s) tx kept ready = (ready.0, ready.1 ∙ tx, ready.2, goes_on old.used.0 mid.used.0 (usage_at s).used.0 false kept ready.3)
+heard old mid (went.Replied r v) tx kept ready = (ready.0 ∙ tx, goes_on old.used.0 mid.used.0 v.used.0 false kept ready.1)
+heard old mid (went.Refused r v) tx kept ready = (ready.0 ∙ tx, goes_on old.used.0 mid.used.0 v.used.0 (rolls_back r) kept ready.1)
+
+pub went_keeps : (old : Usage) (new : Stage) (w : Went) (t : Taken) → IsHeard old w → WentTo w new t → keeps_nodes old.used.0 (usage_at new).used.0 (rolls t) ≡ true
+went_keeps old new (went.On s) t heard to =
+    subst (λ (y : Taken). keeps_nodes old.used.0 (usage_at new).used.0 (rolls y) ≡ true) (sym to.1)
+    (subst (λ (x : Stage). keeps_nodes old.used.0 (usage_at x).used.0 false ≡ true) (sym to.0) heard.3)
+went_keeps old new (went.Replied r u) t heard to =
+    subst (λ (y : Taken). keeps_nodes old.used.0 (usage_at new).used.0 (rolls y) ≡ true) (sym to.1)
+    (subst (λ (x : Stage). keeps_nodes old.used.0 (usage_at x).used.0 false ≡ true) (sym to.0) heard.1)
+went_keeps old new (went.Refused r u) t heard to =
+    subst (λ (y : Taken). keeps_nodes old.used.0 (usage_at new).used.0 (rolls y) ≡ true) (sym to.1)
+    (subst (λ (x : Stage). keeps_nodes old.used.0 (usage_at x).used.0 (rolls_back r) ≡ true) (sym to.0) heard.1)

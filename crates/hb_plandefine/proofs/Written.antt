@@ -1,13 +1,14 @@
 -- Changes of the dictionary can be written.
-use Rattle.std.proofs.Common.{◌≡◌, ℕ, ◌≤◌, List, [], ◌∷◌, ◌++◌, ap, sym, ◌∙◌, subst, arith}
+use Rattle.std.proofs.Common.{◌≡◌, ℕ, List, [], ◌∷◌, ◌++◌, ap, sym, ◌∙◌, subst, arith}
 use Rattle.hb_types.specs.declared.change.Change.{Change}
 use Rattle.hb_types.specs.Lists.{Each}
 use Rattle.hb_types.specs.Places.{node_of_area}
+use Rattle.hb_access.specs.Accesses.{IsServer}
 use Rattle.hb_definerows.specs.DefineRows.{IsDefined}
 use Rattle.hb_writes.specs.Underway.{IsWrite}
 
 pub one_write : (c : Change) → IsDefined c → IsWrite c
-one_write c is = (is.0, subst (λ (n : ℕ). node_of_area n ≤ 10) (sym is.1) (omega arith))
+one_write c is = (is.0, subst (λ (n : ℕ). IsServer (node_of_area n)) (sym is.1) (omega arith, omega arith))
 
 pub each_write : (cs : List Change) → Each IsDefined cs → Each IsWrite cs
 each_write [] each = tt

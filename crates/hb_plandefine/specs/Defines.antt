@@ -17,6 +17,7 @@ use Rattle.hb_model.specs.Refusals.{first_refusal}
 use Rattle.hb_model.specs.Spots.{ds, dictionary_space, areas_space, members_space, entries_space}
 use Rattle.hb_model.specs.State.{Area, nothing, area_named}
 use Rattle.hb_model.specs.Told.{Found, found_in, table_among}
+use Rattle.hb_talk.specs.Sessions.{rolls_back}
 use Rattle.hb_talk.specs.Talk.{Talk, says, asks, going_on, Use, Planning, ◌>>=◌, ◌>>◌, pure, and_then, refused, refuse, scan_group}
 use Rattle.hb_talk.specs.Plans.{writes, some_or}
 use Rattle.hb_talk.specs.PlansDefine.{areas, area_of, with_areas, put_row, lock_group, new_rows, changed_rows, spreading, member_of, entries_of}
@@ -25,7 +26,7 @@ use Rattle.hb_access.specs.declared.access.Next.TheVariants as next
 use Rattle.hb_access.specs.declared.goal.Got.{Got}
 use Rattle.hb_access.specs.declared.goal.Got.TheVariants as got
 use Rattle.hb_access.specs.declared.usage.Usage.{Usage}
-use Rattle.hb_access.specs.Accesses.{use_of}
+use Rattle.hb_access.specs.Accesses.{use_of, keeps_nodes}
 use Rattle.hb_access.specs.Accesses as access
 use Rattle.hb_planrows.specs.PlanRows.{TellTables, TellEntries, IsSited}
 use Rattle.hb_definerows.specs.DefineRows.{TellAreas, TellMembers, added_refusals, can_spread, spread_told, state_told}
@@ -231,6 +232,12 @@ IsReady u (went.On s) = (is_asking s ≡ true) × ((usage_at s).tx.0 ≡ u.tx.0)
 IsReady u (went.Replied r v) = (v.tx.0 ≡ u.tx.0) × (v.used.0 ≡ u.used.0)
 IsReady u (went.Refused r v) = (v.tx.0 ≡ u.tx.0) × (v.used.0 ≡ u.used.0)
 
+-- the same behind an answer: the nodes stay unless the transaction is rolled back for it
+abbrev pub IsHeard : Usage → Went → Type 0
+IsHeard u (went.On s) = (is_asking s ≡ true) × ((usage_at s).tx.0 ≡ u.tx.0) × StageIsWithin s × (keeps_nodes u.used.0 (usage_at s).used.0 false ≡ true)
+IsHeard u (went.Replied r v) = (v.tx.0 ≡ u.tx.0) × (keeps_nodes u.used.0 v.used.0 false ≡ true)
+IsHeard u (went.Refused r v) = (v.tx.0 ≡ u.tx.0) × (keeps_nodes u.used.0 v.used.0 (rolls_back r) ≡ true)
+
 -- what is asked next is what is to be said, and its answer is awaited, or it is refused
 abbrev pub NextIs : Stage → Stage → Next → Type 0
 NextIs old new (next.Ask node q) = (is_waiting new ≡ true) × (now_talks old ≡ asks node.0 q (now_hears new))
@@ -241,6 +248,12 @@ abbrev pub Hears : Stage → Stage → Answer → Taken → Type 0
 Hears old new a taken.More = now_hears old a ≡ now_talks new
 Hears old new a (taken.Replied r) = now_hears old a ≡ says (Ok r, use_of (usage_at new))
 Hears old new a (taken.Refused r) = IsRefused (now_hears old a) r (use_of (usage_at new))
+
+-- whether an answer was one that rolls the transaction back
+abbrev pub rolls : Taken → Bool
+rolls taken.More = false
+rolls (taken.Replied r) = false
+rolls (taken.Refused r) = rolls_back r
 
 abbrev pub AsksMore : Stage → Taken → Type 0
 AsksMore new taken.More = is_asking new ≡ true

@@ -3,12 +3,12 @@ ghost use Rattle.std.specs.Prelude.{◌≡◌, ◌≤◌, true, length, IfOk};
 ghost use Rattle.hb_types.specs.Numbers.{IsNumber};
 ghost use Rattle.hb_talk.specs.Talk.{Talk};
 ghost use Rattle.hb_talk.specs.PlansDefine.{create_area_plan, create_table_plan, add_area_plan};
-ghost use Rattle.hb_access.specs.Accesses.{use_of, used_after, AsksSoundly, is_asking as access_asking, is_waiting as access_waiting};
+ghost use Rattle.hb_access.specs.Accesses.{use_of, used_after, at_branch, keeps_nodes, AsksSoundly, is_asking as access_asking, is_waiting as access_waiting};
 ghost use Rattle.hb_definerows.specs.Drafts.{IsNamed};
 ghost use Rattle.hb_writes.specs.Writings.{Replied, is_asking as writes_ask, is_waiting as writes_wait};
 ghost use Rattle.hb_plandefine.specs.declared.stage.Stage.TheVariants as stage;
 ghost use Rattle.hb_access.specs.declared.goal.Got.TheVariants as got;
-ghost use Rattle.hb_plandefine.specs.Defines.{AsksMore, Goes, Hears, IsReady, IsWithin, StageIsWithin, NextIs, Tells, TellsGot, TellsRows, HasNoRows, follows, is_asking, is_waiting, now_hears, now_talks, usage_at, WentTo};
+ghost use Rattle.hb_plandefine.specs.Defines.{AsksMore, Goes, Hears, IsHeard, IsReady, IsWithin, StageIsWithin, NextIs, Tells, TellsGot, TellsRows, HasNoRows, follows, is_asking, is_waiting, now_hears, now_talks, rolls, usage_at, WentTo};
 
 use crate::add_area::{area_came, entries_came, members_came, names_came};
 use crate::create_area::area_rows_came;
@@ -115,7 +115,7 @@ fn asked(alloc: Global, access: Access, then: Then, answer: Answer) -> Went
     requires waiting { access_waiting access.stage ≡ true }
     requires within { IsWithin then }
     ensures goes { Tells (stage.Asking access then) answer → Goes (now_hears (stage.Asking access then) answer) result }
-    ensures ready { IsReady access.usage result }
+    ensures heard { IsHeard access.usage result }
 {
     let mut access = access;
     match access.take(answer) {
@@ -129,7 +129,7 @@ fn asked(alloc: Global, access: Access, then: Then, answer: Answer) -> Went
 fn wrote(writing: Writing, answer: Answer) -> Went
     requires { writes_wait writing ≡ true }
     ensures goes { Goes (now_hears (stage.Writing writing) answer) result }
-    ensures ready { IsReady writing.access.usage result }
+    ensures heard { IsHeard writing.access.usage result }
 {
     let mut writing = writing;
     match writing.take(answer) {
@@ -144,7 +144,7 @@ fn answered(alloc: Global, stage: Stage, answer: Answer) -> Went
     requires waiting { is_waiting stage ≡ true }
     requires within { StageIsWithin stage }
     ensures goes { Tells stage answer → Goes (now_hears stage answer) result }
-    ensures ready { IsReady (usage_at stage) result }
+    ensures heard { IsHeard (usage_at stage) result }
 {
     match stage {
         Stage::Asking(access, then) => asked(alloc, access, then, answer),
@@ -159,6 +159,7 @@ fn ask_next(access: &mut Access, then: &Then) -> Next
     ensures next { NextIs (stage.Asking access.old then.now) (stage.Asking access.new then.now) result }
     ensures tx { access.new.usage.tx.0 ≡ access.old.usage.tx.0 }
     ensures used { access.new.usage.used.0 ≡ used_after access.old.usage.used.0 result }
+    ensures branch { at_branch access.old.usage result ≡ true }
     ensures sound { IsNumber access.old.usage.tx.0 → AsksSoundly result }
 {
     access.next()
@@ -170,6 +171,7 @@ fn write_next(writing: &mut Writing) -> Next
     ensures next { NextIs (stage.Writing writing.old) (stage.Writing writing.new) result }
     ensures tx { writing.new.access.usage.tx.0 ≡ writing.old.access.usage.tx.0 }
     ensures used { writing.new.access.usage.used.0 ≡ used_after writing.old.access.usage.used.0 result }
+    ensures branch { at_branch writing.old.access.usage result ≡ true }
     ensures sound { IsNumber writing.old.access.usage.tx.0 → AsksSoundly result }
 {
     writing.next()
@@ -235,6 +237,7 @@ impl Defining {
         ensures next { NextIs self.old self.new result }
         ensures tx { (usage_at self.new).tx.0 ≡ (usage_at self.old).tx.0 }
         ensures used { (usage_at self.new).used.0 ≡ used_after (usage_at self.old).used.0 result }
+        ensures branch { at_branch (usage_at self.old) result ≡ true }
         ensures sound { IsNumber (usage_at self.old).tx.0 → AsksSoundly result }
     {
         match &mut self.stage {
@@ -246,7 +249,7 @@ impl Defining {
 
     // Stands where a step led.
     fn go(&mut self, went: Went) -> Taken
-        requires { IsReady (usage_at self.old) went }
+        requires { IsHeard (usage_at self.old) went }
         ensures went { WentTo went self.new result }
     {
         match went {
@@ -271,7 +274,7 @@ impl Defining {
         ensures hears { Tells self.old answer → Hears self.old self.new answer result }
         ensures more { AsksMore self.new result }
         ensures tx { (usage_at self.new).tx.0 ≡ (usage_at self.old).tx.0 }
-        ensures used { (usage_at self.new).used.0 ≡ (usage_at self.old).used.0 }
+        ensures used { keeps_nodes (usage_at self.old).used.0 (usage_at self.new).used.0 (rolls result) ≡ true }
     {
         let ended = Stage::Ended(self.usage());
         let stage = std::mem::replace(&mut self.stage, ended);

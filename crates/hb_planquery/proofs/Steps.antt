@@ -17,8 +17,9 @@ use Rattle.hb_access.specs.declared.goal.Goal.{Goal}
 use Rattle.hb_access.specs.declared.goal.Got.{Got}
 use Rattle.hb_access.specs.declared.goal.Got.TheVariants as got
 use Rattle.hb_access.specs.declared.usage.Usage.{Usage}
-use Rattle.hb_access.specs.Accesses.{Accessing, use_of, locked}
+use Rattle.hb_access.specs.Accesses.{Accessing, use_of, locked, keeps_nodes}
 use Rattle.hb_access.specs.Accesses as access
+use Rattle.hb_access.proofs.Nodes.{goes_on}
 use Rattle.hb_round.specs.Onward.{onward, Asks}
 use Rattle.hb_round.specs.Onward as part
 use Rattle.hb_round.proofs.Onwards.{asks_on, access_asks, says_on, refused_on, plan_on}
@@ -40,7 +41,7 @@ use Rattle.hb_planquery.specs.declared.query_plan.Stage.TheVariants as stage
 use Rattle.hb_planquery.specs.declared.query_plan.Taken.{Taken}
 use Rattle.hb_planquery.specs.declared.query_plan.Taken.TheVariants as taken
 use Rattle.hb_planquery.specs.Queries.{plan_of, rows_in, TellsTables, names_goal, early, aim_at, read_and_end, on_found, behind_names, ending_at, end_at}
-use Rattle.hb_planquery.specs.QueryPlans.{Querying, is_asking, is_waiting, asks_at, waits_at, NextIs, Hears, GoesWith, AsksOn, Finds, Reads, EndsAt, HasTable, IsTold, TellsAnswer, as_taken, uses, now_uses, now_talks, now_hears, talks_at, hears_at}
+use Rattle.hb_planquery.specs.QueryPlans.{Querying, is_asking, is_waiting, asks_at, waits_at, NextIs, Hears, GoesWith, AsksOn, Finds, Reads, EndsAt, HasTable, IsTold, TellsAnswer, as_taken, rolls, uses, uses_at, now_uses, now_talks, now_hears, talks_at, hears_at}
 use Rattle.hb_planquery.proofs.PlanParts.{plans}
 
 pub begins : (name : List ℕ) (q : Query) (g : Goal) (u : Usage) (x : Accessing) → g ≡ names_goal → access.now_talks x ≡ locked g (use_of u)
@@ -190,6 +191,32 @@ pub writes_ask : (v new : Querying) (w x : Underway) (a : Answer) (s : WritesTak
     → writing.Hears w x a s → AsksOn new t
 writes_ask v new w x a s t after same h =
     subst (AsksOn new) (sym same) (asks_goes (writing.now_hears w a) new (as_taken s) (writes_go v new w x (writing.now_hears w a) s after h))
+
+-- ---- nodes
+
+keeps_at : (old v new : Querying) (s : Stage) (t : Taken) → v ≡ old → v.stage ≡ s → keeps_nodes (uses_at s).used.0 (uses new).used.0 (rolls t) ≡ true
+    → keeps_nodes (uses old).used.0 (uses new).used.0 (rolls t) ≡ true
+keeps_at old v new s t is at kept =
+    subst (λ o. keeps_nodes (uses o).used.0 (uses new).used.0 (rolls t) ≡ true) is
+    (subst (λ z. keeps_nodes (uses_at z).used.0 (uses new).used.0 (rolls t) ≡ true) (sym at) kept)
+
+pub came_keeps : (old v new : Querying) (s : Stage) (mid : ℕ) (t : Taken) → v ≡ old → v.stage ≡ s → keeps_nodes (uses_at s).used.0 mid false ≡ true
+    → (uses new).used.0 ≡ mid → keeps_nodes (uses old).used.0 (uses new).used.0 (rolls t) ≡ true
+came_keeps old v new s mid t is at kept same =
+    keeps_at old v new s t is at (goes_on (uses_at s).used.0 mid (uses new).used.0 (rolls t) kept same)
+
+rolls_written : (s : WritesTaken) → rolls (as_taken s) ≡ writing.rolls s
+rolls_written written.More = refl
+rolls_written (written.Replied r) = refl
+rolls_written (written.Refused r) = refl
+
+pub writes_keep : (old v new : Querying) (w x : Underway) (s : WritesTaken) (t : Taken) → v ≡ old → v.stage ≡ stage.Writes w
+    → new ≡ record v { stage = stage.Writes x } → t ≡ as_taken s → keeps_nodes w.access.usage.used.0 x.access.usage.used.0 (writing.rolls s) ≡ true
+    → keeps_nodes (uses old).used.0 (uses new).used.0 (rolls t) ≡ true
+writes_keep old v new w x s t is at after same kept =
+    keeps_at old v new (stage.Writes w) t is at
+    (subst (λ z. keeps_nodes w.access.usage.used.0 (uses z).used.0 (rolls t) ≡ true) (sym after)
+    (subst (λ b. keeps_nodes w.access.usage.used.0 x.access.usage.used.0 b ≡ true) (sym (ap rolls same ∙ rolls_written s)) kept))
 
 -- ---- writes
 

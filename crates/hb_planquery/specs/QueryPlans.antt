@@ -6,6 +6,7 @@ use Rattle.hb_model.specs.declared.reply.Reply.{Reply}
 use Rattle.hb_model.specs.declared.reply.Reply.TheVariants as reply
 use Rattle.hb_model.specs.declared.table.Table.{Table}
 use Rattle.hb_model.specs.Told.{Found}
+use Rattle.hb_talk.specs.Sessions.{rolls_back}
 use Rattle.hb_talk.specs.Talk.{Talk, says, Use}
 use Rattle.hb_access.specs.declared.access.Next.{Next}
 use Rattle.hb_access.specs.declared.goal.Got.{Got}
@@ -107,6 +108,12 @@ abbrev pub AsksOn : Querying → Taken → Type 0
 AsksOn new taken.More = is_asking new ≡ true
 AsksOn new (taken.Replied r) = ⊤
 AsksOn new (taken.Refused r) = ⊤
+
+-- whether an answer was one that rolls the transaction back
+abbrev pub rolls : Taken → Bool
+rolls taken.More = false
+rolls (taken.Replied r) = false
+rolls (taken.Refused r) = rolls_back r
 
 -- what the writes made of an answer
 abbrev pub as_taken : WritesTaken → Taken

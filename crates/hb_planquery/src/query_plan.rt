@@ -3,11 +3,11 @@ ghost use Rattle.std.specs.Prelude.{◌≡◌, true, ℕ, Some, IfOk, IfSome};
 ghost use Rattle.hb_types.specs.Lists.{Each};
 ghost use Rattle.hb_types.specs.Numbers.{IsNumber};
 ghost use Rattle.hb_model.specs.Told.{table_among};
-ghost use Rattle.hb_access.specs.Accesses.{AsksSoundly, use_of, used_after};
+ghost use Rattle.hb_access.specs.Accesses.{AsksSoundly, use_of, used_after, at_branch, keeps_nodes};
 ghost use Rattle.hb_planrows.specs.PlanRows.{AreSited, IsPlain};
 ghost use Rattle.hb_writes.specs.Underway.{IsWrite};
 ghost use Rattle.hb_planquery.specs.Queries.{plan_of, rows_in, TellsTables};
-ghost use Rattle.hb_planquery.specs.QueryPlans.{is_asking, is_waiting, uses, now_uses, now_talks, NextIs, Hears, IsTold, GoesWith, AsksOn, IsAtNames, IsReading, IsEnded, Finds, Reads, Ends, IsWithin, HasTable, as_taken};
+ghost use Rattle.hb_planquery.specs.QueryPlans.{is_asking, is_waiting, uses, now_uses, now_talks, NextIs, Hears, IsTold, GoesWith, AsksOn, IsAtNames, IsReading, IsEnded, Finds, Reads, Ends, IsWithin, HasTable, as_taken, rolls};
 ghost use Rattle.hb_endings.specs.Endings.{CanWrite, changing, ending_talk, told};
 
 use crate::aims::aim_of;
@@ -145,6 +145,7 @@ impl QueryPlan {
         ensures next { NextIs self.old self.new result }
         ensures tx { (uses self.new).tx.0 ≡ (uses self.old).tx.0 }
         ensures used { (uses self.new).used.0 ≡ used_after (uses self.old).used.0 result }
+        ensures branch { at_branch (uses self.old) result ≡ true }
         ensures sound { IsNumber (uses self.old).tx.0 → AsksSoundly result }
     {
         match &mut self.stage {
@@ -161,7 +162,7 @@ impl QueryPlan {
         ensures hears { IsTold self.old answer → Hears self.old self.new answer result }
         ensures asking { AsksOn self.new result }
         ensures tx { (uses self.new).tx.0 ≡ (uses self.old).tx.0 }
-        ensures used { (uses self.new).used.0 ≡ (uses self.old).used.0 }
+        ensures used { keeps_nodes (uses self.old).used.0 (uses self.new).used.0 (rolls result) ≡ true }
     {
         match &mut self.stage {
             Stage::Names(access) => match access.take(answer) {

@@ -1,5 +1,5 @@
 -- The steps of a reading keep what is to be said.
-use Rattle.std.proofs.Common.{◌≡◌, ◌≢◌, ℕ, true, List, [], Option, Some, None, Result, Ok, Err, IfOk, refl, ap, sym, ◌∙◌, subst}
+use Rattle.std.proofs.Common.{◌≡◌, ◌≢◌, ℕ, true, false, List, [], Option, Some, None, Result, Ok, Err, IfOk, refl, ap, sym, ◌∙◌, subst}
 use Rattle.hb_types.specs.declared.answer.Answer.{Answer}
 use Rattle.hb_types.specs.declared.change.Stored.{Stored}
 use Rattle.hb_types.specs.declared.memory.NoMemory.{NoMemory}
@@ -15,8 +15,9 @@ use Rattle.hb_access.specs.declared.goal.Goal.{Goal}
 use Rattle.hb_access.specs.declared.goal.Got.{Got}
 use Rattle.hb_access.specs.declared.goal.Got.TheVariants as got
 use Rattle.hb_access.specs.declared.usage.Usage.{Usage}
-use Rattle.hb_access.specs.Accesses.{Accessing, use_of, locked}
+use Rattle.hb_access.specs.Accesses.{Accessing, use_of, locked, keeps_nodes}
 use Rattle.hb_access.specs.Accesses as access
+use Rattle.hb_access.proofs.Nodes.{goes_on}
 use Rattle.hb_planrows.specs.PlanRows.{TellEntries}
 use Rattle.hb_round.specs.declared.round.Taken.{Taken as RoundTaken}
 use Rattle.hb_round.specs.declared.round.Taken.TheVariants as brought
@@ -34,7 +35,7 @@ use Rattle.hb_reading.specs.declared.reading.Taken.TheVariants as taken
 use Rattle.hb_reading.specs.declared.routing.Routed.{Routed}
 use Rattle.hb_reading.specs.Aims.{reading, first_goal, sweep_of}
 use Rattle.hb_reading.specs.Routes.{routed, of_all, in_areas, Routes, TellsGot, TellsAnswer}
-use Rattle.hb_reading.specs.Readings.{Read, NextIs, Hears, GoesWith, Enters, HasRows, BringsRows, AsksOn, IsTold, as_taken, uses, now_uses, now_talks, now_hears, talks_at, hears_at, behind_entries, or_refused, rows_along, bringing}
+use Rattle.hb_reading.specs.Readings.{Read, NextIs, Hears, GoesWith, Enters, HasRows, BringsRows, AsksOn, IsTold, as_taken, rolls, uses, uses_at, now_uses, now_talks, now_hears, talks_at, hears_at, behind_entries, or_refused, rows_along, bringing}
 use Rattle.hb_reading.proofs.ReadingPlans.{reads}
 
 pub begins : (table : ℕ) (a : Aim) (g : Goal) (u : Usage) (x : Accessing) → g ≡ first_goal table a → access.now_talks x ≡ locked g (use_of u)
@@ -157,6 +158,28 @@ pub rows_ask : (v new : Read) (r q : Rounding) (entry : Option Entry) (a : Answe
 rows_ask v new r q entry a brought.More t after same h = subst (AsksOn new) (sym same) (subst (λ w. AsksOn w taken.More) (sym after) h.0)
 rows_ask v new r q entry a (brought.Came rows) t after same h = subst (AsksOn new) (sym same) tt
 rows_ask v new r q entry a (brought.Refused e) t after same h = subst (AsksOn new) (sym same) tt
+
+-- ---- nodes
+
+pub came_keeps : (old v new : Read) (x y : Accessing) (t : Taken) → v ≡ old → v.stage ≡ stage.First x → keeps_nodes x.usage.used.0 y.usage.used.0 false ≡ true
+    → (uses new).used.0 ≡ y.usage.used.0 → keeps_nodes (uses old).used.0 (uses new).used.0 (rolls t) ≡ true
+came_keeps old v new x y t is at kept same =
+    subst (λ o. keeps_nodes (uses o).used.0 (uses new).used.0 (rolls t) ≡ true) is
+    (subst (λ s. keeps_nodes (uses_at s).used.0 (uses new).used.0 (rolls t) ≡ true) (sym at) (goes_on x.usage.used.0 y.usage.used.0 (uses new).used.0 (rolls t) kept same))
+
+rolls_brought : (entry : Option Entry) (s : RoundTaken) → rolls (as_taken entry s) ≡ round.rolls s
+rolls_brought entry brought.More = refl
+rolls_brought entry (brought.Came rows) = refl
+rolls_brought entry (brought.Refused e) = refl
+
+pub rows_keep : (old v new : Read) (r q : Rounding) (entry : Option Entry) (s : RoundTaken) (t : Taken) → v ≡ old → v.stage ≡ stage.Rows r entry
+    → new ≡ record v { stage = stage.Rows q entry } → t ≡ as_taken entry s → keeps_nodes r.access.usage.used.0 q.access.usage.used.0 (round.rolls s) ≡ true
+    → keeps_nodes (uses old).used.0 (uses new).used.0 (rolls t) ≡ true
+rows_keep old v new r q entry s t is at after same kept =
+    subst (λ o. keeps_nodes (uses o).used.0 (uses new).used.0 (rolls t) ≡ true) is
+    (subst (λ z. keeps_nodes (uses_at z).used.0 (uses new).used.0 (rolls t) ≡ true) (sym at)
+    (subst (λ w. keeps_nodes r.access.usage.used.0 (uses w).used.0 (rolls t) ≡ true) (sym after)
+    (subst (λ b. keeps_nodes r.access.usage.used.0 q.access.usage.used.0 b ≡ true) (sym (ap rolls same ∙ rolls_brought entry s)) kept)))
 
 -- ---- entries of a table
 

@@ -1,10 +1,11 @@
 -- A reading: what is still to be said, and what follows an answer.
-use Rattle.std.specs.Prelude.{◌≡◌, ◌≢◌, ℕ, Bool, true, List, [], Option, Result, Ok, Err, IfSome, ⊤}
+use Rattle.std.specs.Prelude.{◌≡◌, ◌≢◌, ℕ, Bool, true, false, List, [], Option, Result, Ok, Err, IfSome, ⊤}
 use Rattle.hb_types.specs.declared.answer.Answer.{Answer}
 use Rattle.hb_types.specs.declared.change.Stored.{Stored}
 use Rattle.hb_types.specs.declared.entry.Entry.{Entry}
 use Rattle.hb_model.specs.declared.reply.Reply.{Reply}
 use Rattle.hb_model.specs.declared.reply.Reply.TheVariants as reply
+use Rattle.hb_talk.specs.Sessions.{rolls_back}
 use Rattle.hb_talk.specs.Talk.{Talk, says, Use, Planning, ◌>>=◌, pure, refused}
 use Rattle.hb_access.specs.declared.access.Next.{Next}
 use Rattle.hb_access.specs.declared.goal.Got.{Got}
@@ -109,6 +110,12 @@ abbrev pub AsksOn : Read → Taken → Type 0
 AsksOn new taken.More = is_asking new ≡ true
 AsksOn new (taken.Came b) = ⊤
 AsksOn new (taken.Refused r) = ⊤
+
+-- whether an answer was one that rolls the transaction back
+abbrev pub rolls : Taken → Bool
+rolls taken.More = false
+rolls (taken.Came b) = false
+rolls (taken.Refused r) = rolls_back r
 
 -- what a round brought, with the entry
 abbrev pub as_taken : Option Entry → RoundTaken → Taken

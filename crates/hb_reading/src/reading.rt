@@ -2,10 +2,10 @@
 ghost use Rattle.std.specs.Prelude.{◌≡◌, true, IfSome};
 ghost use Rattle.hb_types.specs.Calls.{IsAnswer};
 ghost use Rattle.hb_types.specs.Numbers.{IsNumber};
-ghost use Rattle.hb_access.specs.Accesses.{AsksSoundly, use_of, used_after};
+ghost use Rattle.hb_access.specs.Accesses.{AsksSoundly, use_of, used_after, at_branch, keeps_nodes};
 ghost use Rattle.hb_reading.specs.Aims.{HasKey, reading};
 ghost use Rattle.hb_reading.specs.Routes.{IsRouted};
-ghost use Rattle.hb_reading.specs.Readings.{is_asking, is_waiting, uses, now_talks, NextIs, Hears, Enters, BringsRows, GoesWith, rows_along, IsAtFirst, HasRows, IsTold, IsSitedIn, AsksOn, as_taken};
+ghost use Rattle.hb_reading.specs.Readings.{is_asking, is_waiting, uses, now_talks, NextIs, Hears, Enters, BringsRows, GoesWith, rows_along, IsAtFirst, HasRows, IsTold, IsSitedIn, AsksOn, as_taken, rolls};
 
 use crate::aim::Aim;
 use crate::routing::{Routed, find_route};
@@ -107,6 +107,7 @@ impl Reading {
         ensures next { NextIs self.old self.new result }
         ensures tx { (uses self.new).tx.0 ≡ (uses self.old).tx.0 }
         ensures used { (uses self.new).used.0 ≡ used_after (uses self.old).used.0 result }
+        ensures branch { at_branch (uses self.old) result ≡ true }
         ensures rows { HasRows self.old → HasRows self.new }
         ensures sound { IsNumber (uses self.old).tx.0 → AsksSoundly result }
     {
@@ -122,7 +123,7 @@ impl Reading {
         ensures hears { IsTold self.old answer → Hears self.old self.new answer result }
         ensures asking { AsksOn self.new result }
         ensures tx { (uses self.new).tx.0 ≡ (uses self.old).tx.0 }
-        ensures used { (uses self.new).used.0 ≡ (uses self.old).used.0 }
+        ensures used { keeps_nodes (uses self.old).used.0 (uses self.new).used.0 (rolls result) ≡ true }
         ensures rows { HasRows self.old → IsAnswer answer → BringsRows self.new result }
         ensures sited { IsSitedIn result }
     {

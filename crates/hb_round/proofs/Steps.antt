@@ -1,5 +1,5 @@
 -- The steps of a round keep what is to be said.
-use Rattle.std.proofs.Common.{◌≡◌, ℕ, true, List, [], ◌∷◌, ◌++◌, Ok, Err, Some, None, ap, sym, ◌∙◌, subst}
+use Rattle.std.proofs.Common.{◌≡◌, ℕ, true, false, List, [], ◌∷◌, ◌++◌, Ok, Err, Some, None, ap, sym, ◌∙◌, subst}
 use Rattle.std.proofs.lemmas.List.Elements.{All-nil, All-cons, All-append}
 use Rattle.hb_types.specs.declared.answer.Answer.{Answer}
 use Rattle.hb_types.specs.declared.change.Stored.{Stored}
@@ -13,8 +13,9 @@ use Rattle.hb_access.specs.declared.goal.Goal.{Goal}
 use Rattle.hb_access.specs.declared.goal.Got.{Got}
 use Rattle.hb_access.specs.declared.goal.Got.TheVariants as got
 use Rattle.hb_access.specs.declared.usage.Usage.{Usage}
-use Rattle.hb_access.specs.Accesses.{Accessing, use_of, locked}
+use Rattle.hb_access.specs.Accesses.{Accessing, use_of, locked, keeps_nodes}
 use Rattle.hb_access.specs.Accesses as access
+use Rattle.hb_access.proofs.Nodes.{goes_on}
 use Rattle.hb_round.specs.declared.round.Taken.{Taken}
 use Rattle.hb_round.specs.declared.round.Taken.TheVariants as taken
 use Rattle.hb_round.specs.declared.sweep.Sweep.{Sweep}
@@ -22,7 +23,7 @@ use Rattle.hb_round.specs.declared.sweep.Swept.{Swept}
 use Rattle.hb_round.specs.declared.sweep.Swept.TheVariants as swept
 use Rattle.hb_round.specs.Onward.{Ends, onward}
 use Rattle.hb_round.specs.Sweeps.{gathering, goal_in, came_in, came_of}
-use Rattle.hb_round.specs.Rounds.{Rounding, NextIs, Hears, GoesWith, GoesOn, Gathers, BringsRows, AreRows, Begins, behind, then_on, now_talks, now_hears, now_uses}
+use Rattle.hb_round.specs.Rounds.{Rounding, NextIs, Hears, GoesWith, GoesOn, Gathers, BringsRows, AreRows, Begins, behind, then_on, now_talks, now_hears, now_uses, rolls}
 use Rattle.hb_round.proofs.Onwards.{asks_on, access_asks, says_on, refused_on}
 
 pub next_on : (old r : Rounding) (new : Accessing) (n : Next) → r ≡ old → access.NextIs r.access new n → NextIs old (record r { access = new }) n
@@ -135,3 +136,11 @@ came_brings old r new next a g t is b gathers are =
     of_rows taken.More h = h
     of_rows (taken.Came rows) h = h
     of_rows (taken.Refused e) h = tt
+
+-- ---- nodes
+
+pub came_keeps : (old r new : Rounding) (next : Accessing) (g : Got) (t : Taken) → r ≡ old → keeps_nodes r.access.usage.used.0 next.usage.used.0 false ≡ true
+    → Gathers (record r { access = next }) new g t → keeps_nodes old.access.usage.used.0 new.access.usage.used.0 (rolls t) ≡ true
+came_keeps old r new next g t is kept gathers =
+    subst (λ o. keeps_nodes o.access.usage.used.0 new.access.usage.used.0 (rolls t) ≡ true) is
+    (goes_on r.access.usage.used.0 next.usage.used.0 new.access.usage.used.0 (rolls t) kept (ap (λ u. u.used.0) gathers.usage))

@@ -1,9 +1,10 @@
 -- A round through areas: what is still to be said, and what follows an answer.
-use Rattle.std.specs.Prelude.{◌≡◌, ◌≢◌, ℕ, Bool, true, All, List, [], ◌++◌, Ok, Err, ⊤}
+use Rattle.std.specs.Prelude.{◌≡◌, ◌≢◌, ℕ, Bool, true, false, All, List, [], ◌++◌, Ok, Err, ⊤}
 use Rattle.hb_types.specs.declared.answer.Answer.{Answer}
 use Rattle.hb_types.specs.declared.change.Stored.{Stored}
 use Rattle.hb_types.specs.Rows.{IsRow}
 use Rattle.hb_model.specs.declared.reply.Reply.TheVariants as reply
+use Rattle.hb_talk.specs.Sessions.{rolls_back}
 use Rattle.hb_talk.specs.Talk.{Talk, says, Use, Planning}
 use Rattle.hb_access.specs.declared.access.Next.{Next}
 use Rattle.hb_access.specs.declared.goal.Got.{Got}
@@ -67,6 +68,12 @@ GoesWith talk new (taken.Refused r) = r ≢ reply.NoMemory → talk ≡ says (Er
 -- after an answer the round stands where its talk does
 abbrev pub Hears : Rounding → Rounding → Answer → Taken → Type 0
 Hears old new a t = GoesWith (now_hears old a) new t
+
+-- whether an answer was one that rolls the transaction back
+abbrev pub rolls : Taken → Bool
+rolls taken.More = false
+rolls (taken.Came rows) = false
+rolls (taken.Refused r) = rolls_back r
 
 -- ---- rows in the grammar
 

@@ -1,5 +1,5 @@
 -- What is wanted of a table in each area, as accesses and as a plan.
-use Rattle.std.specs.Prelude.{ℕ, ◌≤◌, Bool, true, false, List, [], ◌∷◌, ◌++◌, FitsSigned, ⊤}
+use Rattle.std.specs.Prelude.{ℕ, Bool, true, false, List, [], ◌∷◌, ◌++◌, FitsSigned, ⊤}
 use Rattle.std.specs.Int.{w32}
 use Rattle.hb_types.specs.declared.change.Stored.{Stored}
 use Rattle.hb_types.specs.declared.places.Path.{Path}
@@ -11,7 +11,7 @@ use Rattle.hb_talk.specs.Plans.{stored_at}
 use Rattle.hb_access.specs.declared.goal.Goal.{Goal}
 use Rattle.hb_access.specs.declared.goal.Got.{Got}
 use Rattle.hb_access.specs.declared.goal.Got.TheVariants as got
-use Rattle.hb_access.specs.Accesses.{locked}
+use Rattle.hb_access.specs.Accesses.{locked, IsServer}
 use Rattle.hb_round.specs.declared.sweep.Sweep.{Sweep}
 use Rattle.hb_round.specs.declared.sweep.Swept.{Swept}
 use Rattle.hb_round.specs.declared.sweep.Swept.TheVariants as swept
@@ -22,9 +22,9 @@ IsKeyed (swept.Row key) = FitsSigned w32 key
 IsKeyed swept.Rows = ⊤
 IsKeyed swept.Lock = ⊤
 
--- an area is one of a node
+-- an area is one of ds or of a back end
 abbrev pub HasNode : ℕ → Type 0
-HasNode area = node_of_area area ≤ 10
+HasNode area = IsServer (node_of_area area)
 
 abbrev pub path_of : Swept → ℕ → ℕ → Path
 path_of (swept.Row key) table area = path.Key (place_in area table key)

@@ -3,9 +3,9 @@ ghost use Rattle.std.specs.Prelude.{◌≡◌, true, drop, [], MatchOption};
 ghost use Rattle.hb_types.specs.Calls.{IsAnswer};
 ghost use Rattle.hb_types.specs.Lists.{Each};
 ghost use Rattle.hb_types.specs.Numbers.{IsNumber};
-ghost use Rattle.hb_access.specs.Accesses.{AsksSoundly, use_of, used_after};
+ghost use Rattle.hb_access.specs.Accesses.{AsksSoundly, use_of, used_after, at_branch, keeps_nodes};
 ghost use Rattle.hb_round.specs.Sweeps.{IsKeyed, HasNode};
-ghost use Rattle.hb_round.specs.Rounds.{Begins, NextIs, Hears, Gathers, GoesOn, BringsRows, is_asking, is_waiting};
+ghost use Rattle.hb_round.specs.Rounds.{Begins, NextIs, Hears, Gathers, GoesOn, BringsRows, is_asking, is_waiting, rolls};
 
 use crate::areas::area_at;
 use crate::sweep::Sweep;
@@ -84,6 +84,7 @@ impl Round {
         ensures next { NextIs self.old self.new result }
         ensures tx { self.new.access.usage.tx.0 ≡ self.old.access.usage.tx.0 }
         ensures used { self.new.access.usage.used.0 ≡ used_after self.old.access.usage.used.0 result }
+        ensures branch { at_branch self.old.access.usage result ≡ true }
         ensures rows { self.new.rows ≡ self.old.rows }
         ensures sound { IsNumber self.old.access.usage.tx.0 → AsksSoundly result }
     {
@@ -95,7 +96,7 @@ impl Round {
         requires { is_waiting self.old ≡ true }
         ensures hears { Hears self.old self.new answer result }
         ensures tx { self.new.access.usage.tx.0 ≡ self.old.access.usage.tx.0 }
-        ensures used { self.new.access.usage.used.0 ≡ self.old.access.usage.used.0 }
+        ensures used { keeps_nodes self.old.access.usage.used.0 self.new.access.usage.used.0 (rolls result) ≡ true }
         ensures rows { IsAnswer answer → BringsRows self.old self.new result }
     {
         match self.access.take(answer) {

@@ -136,11 +136,13 @@ the_rows _ = None
 abbrev pub the_tx : Use → Tx
 the_tx u = record { 0 = u.tx }
 
--- Enlist, before the first other branch request at a node
+-- a node more is used
+abbrev pub joining : ℕ → Planning (Unit {0})
+joining node = λ u. says (Ok tt, record u { used = with_node u.used node })
+
+-- Enlist, before the first other branch request at a node; the node counts as used once that is answered Done
 abbrev pub enlisted : ℕ → Planning (Unit {0})
-enlisted node = λ u.
-    if has_node u.used node then says (Ok tt, u)
-    else expect done node (request.Enlist (the_tx u)) (record u { used = with_node u.used node })
+enlisted node = λ u. if has_node u.used node then says (Ok tt, u) else (expect done node (request.Enlist (the_tx u)) >> joining node) u
 
 abbrev pub lock : ℕ → Path → Mode → Planning (Unit {0})
 lock node p m = enlisted node >>

@@ -1,5 +1,5 @@
 -- Writes as accesses with what is behind them.
-use Rattle.std.proofs.Common.{◌≡◌, ◌+◌, Bool, true, false, List, ◌∷◌, Err, refl, ap, sym, ◌∙◌}
+use Rattle.std.proofs.Common.{◌≡◌, ◌+◌, Bool, true, false, List, ◌∷◌, Err, refl, ap, sym, ◌∙◌, subst}
 use Rattle.std.specs.Prelude.{nat_lt, if◌then◌else◌}
 use Rattle.hb_types.specs.declared.change.Change.{Change}
 use Rattle.hb_types.specs.Places.{node_of_area}
@@ -11,16 +11,17 @@ use Rattle.hb_talk.specs.Plans.{sizes, writing, writes}
 use Rattle.hb_access.specs.declared.access.Next.{Next}
 use Rattle.hb_access.specs.declared.access.Next.TheVariants as next
 use Rattle.hb_access.specs.declared.usage.Usage.{Usage}
-use Rattle.hb_access.specs.Accesses.{Accessing, use_of, written}
+use Rattle.hb_access.specs.Accesses.{Accessing, use_of, written, keeps_nodes}
 use Rattle.hb_access.specs.Accesses as access
 use Rattle.hb_access.proofs.Bridges.{writes_one}
+use Rattle.hb_access.proofs.Nodes.{goes_on}
 use Rattle.hb_access.proofs.Sequences.{plans_assoc}
 use Rattle.hb_writes.specs.declared.writing.Begun.{Begun}
 use Rattle.hb_writes.specs.declared.writing.Begun.TheVariants as begun
 use Rattle.hb_writes.specs.declared.writing.Taken.{Taken}
 use Rattle.hb_writes.specs.declared.writing.Taken.TheVariants as taken
 use Rattle.hb_writes.specs.Underway.{Underway}
-use Rattle.hb_writes.specs.Writings.{Replied, behind, replying, IsSameUse, StartsAt, Starts, Begins, NextIs, Goes}
+use Rattle.hb_writes.specs.Writings.{Replied, behind, replying, IsSameUse, StartsAt, Starts, Begins, NextIs, Goes, rolls}
 
 -- ---- writes, one in front
 
@@ -75,3 +76,11 @@ pub goes_from : (talk its : Talk Replied) (new : Underway) (t : Taken) → talk 
 goes_from talk its new taken.More is at = (at.0, is ∙ at.1)
 goes_from talk its new (taken.Replied r) is at = is ∙ at
 goes_from talk its new (taken.Refused r) is at = is ∙ at
+
+-- ---- nodes
+
+pub came_keeps : (old w new : Underway) (next : Accessing) (t : Taken) → w ≡ old → keeps_nodes w.access.usage.used.0 next.usage.used.0 false ≡ true
+    → new.access.usage.used.0 ≡ next.usage.used.0 → keeps_nodes old.access.usage.used.0 new.access.usage.used.0 (rolls t) ≡ true
+came_keeps old w new next t is kept same =
+    subst (λ (o : Underway). keeps_nodes o.access.usage.used.0 new.access.usage.used.0 (rolls t) ≡ true) is
+    (goes_on w.access.usage.used.0 next.usage.used.0 new.access.usage.used.0 (rolls t) kept same)

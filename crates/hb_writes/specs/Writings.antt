@@ -4,6 +4,7 @@ use Rattle.hb_types.specs.declared.answer.Answer.{Answer}
 use Rattle.hb_types.specs.declared.change.Change.{Change}
 use Rattle.hb_model.specs.Does.{most_bytes}
 use Rattle.hb_model.specs.declared.reply.Reply.{Reply}
+use Rattle.hb_talk.specs.Sessions.{rolls_back}
 use Rattle.hb_talk.specs.Talk.{Talk, says, asks, going_on, Use, Planning, and_then, ◌>>◌, pure}
 use Rattle.hb_talk.specs.Plans.{sizes, writing, writes}
 use Rattle.hb_access.specs.declared.access.Next.{Next}
@@ -87,3 +88,9 @@ Goes talk new (taken.Refused r) = talk ≡ says (Err r, using new)
 
 abbrev pub Hears : Underway → Underway → Answer → Taken → Type 0
 Hears old new a t = Goes (now_hears old a) new t
+
+-- whether an answer was one that rolls the transaction back
+abbrev pub rolls : Taken → Bool
+rolls taken.More = false
+rolls (taken.Replied r) = false
+rolls (taken.Refused r) = rolls_back r

@@ -4,9 +4,9 @@ ghost use Rattle.std.specs.Vec.Iter.{into_iter_items};
 ghost use Rattle.hb_types.specs.Lists.{Each};
 ghost use Rattle.hb_types.specs.Numbers.{IsNumber};
 ghost use Rattle.hb_types.specs.Places.{node_of_area};
-ghost use Rattle.hb_access.specs.Accesses.{use_of, written, used_after, AsksSoundly, is_asking as access_asking, now_talks as access_talks};
+ghost use Rattle.hb_access.specs.Accesses.{use_of, written, used_after, at_branch, keeps_nodes, AsksSoundly, is_asking as access_asking, now_talks as access_talks};
 ghost use Rattle.hb_writes.specs.Underway.{IsWrite};
-ghost use Rattle.hb_writes.specs.Writings.{is_asking, is_waiting, replying, using, Begins, Goes, Hears, NextIs, Starts};
+ghost use Rattle.hb_writes.specs.Writings.{is_asking, is_waiting, rolls, replying, using, Begins, Goes, Hears, NextIs, Starts};
 
 use crate::counting::counted;
 use hb_access::{Access, Next, Usage};
@@ -120,6 +120,7 @@ impl Writing {
         ensures next { NextIs self.old self.new result }
         ensures tx { self.new.access.usage.tx.0 ≡ self.old.access.usage.tx.0 }
         ensures used { self.new.access.usage.used.0 ≡ used_after self.old.access.usage.used.0 result }
+        ensures branch { at_branch self.old.access.usage result ≡ true }
         ensures sound { IsNumber self.old.access.usage.tx.0 → AsksSoundly result }
     {
         self.access.next()
@@ -130,7 +131,7 @@ impl Writing {
         requires { is_waiting self.old ≡ true }
         ensures hears { Hears self.old self.new answer result }
         ensures tx { self.new.access.usage.tx.0 ≡ self.old.access.usage.tx.0 }
-        ensures used { self.new.access.usage.used.0 ≡ self.old.access.usage.used.0 }
+        ensures used { keeps_nodes self.old.access.usage.used.0 self.new.access.usage.used.0 (rolls result) ≡ true }
     {
         match self.access.take(answer) {
             hb_access::Taken::More => Taken::More,

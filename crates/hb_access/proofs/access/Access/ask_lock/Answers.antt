@@ -1,7 +1,7 @@
 use Rattle.std.proofs.Common.{refl, ap, sym, ◌∙◌}
 use Rattle.hb_types.specs.declared.request.Request.TheVariants as request
 use Rattle.hb_talk.specs.Talk.{asks}
-use Rattle.hb_access.specs.Accesses.{use_of, talk_at, locked, behind_lock, once_done}
+use Rattle.hb_access.specs.Accesses.{use_of, talk_at, locked, behind_lock, once_done, once_enlisted}
 use Rattle.hb_access.proofs.Asking.{enlists_first, locks_next}
 use Rattle.hb_access.proofs.access.Access.ask_lock.Goals as goal
 
@@ -13,7 +13,7 @@ returns-in-Enlist-clause-next c =
       ap (λ s. talk_at s (use_of c.args.self.now.usage)) c.requires.stage
           ∙ ap (λ a. locked g (use_of a.usage)) (sym c.self.view_is)
           ∙ enlists_first g u c.in-Enlist.ensures.0
-          ∙ ap (λ v. asks g.node.0 (request.Enlist c.self.inside.usage.tx) (once_done g.node.0 (locked g) v)) (sym c.in-Enlist.ensures.1),
+          ∙ ap (λ v. asks g.node.0 (request.Enlist c.self.inside.usage.tx) (once_enlisted g.node.0 u.used (locked g) v)) (sym c.in-Enlist.ensures.1),
     )
 
 pub returns-in-Lock-clause-next : goal.returns-in-Lock-clause-next

@@ -1,7 +1,7 @@
 use Rattle.std.proofs.Common.{◌≡◌, refl, ap, sym, ◌∙◌}
 use Rattle.hb_types.specs.declared.request.Request.TheVariants as request
 use Rattle.hb_talk.specs.Talk.{asks}
-use Rattle.hb_access.specs.Accesses.{use_of, talk_at, written, once_done}
+use Rattle.hb_access.specs.Accesses.{use_of, talk_at, written, once_enlisted}
 use Rattle.hb_access.specs.declared.access.Stage.TheVariants as stage
 use Rattle.hb_access.proofs.Asking.{enlists_before_write}
 use Rattle.hb_access.proofs.access.Access.ask_write.Goals as goal
@@ -21,5 +21,5 @@ returns-then-enlists-clause-next c =
       ap (λ s. talk_at s (use_of c.args.self.now.usage)) st
           ∙ ap (λ a. written node change (use_of a.usage)) (sym c.self.view_is)
           ∙ enlists_before_write node change u asked.0
-          ∙ ap (λ v. asks node (request.Enlist c.self.inside.usage.tx) (once_done node (written node change) v)) (sym asked.1),
+          ∙ ap (λ v. asks node (request.Enlist c.self.inside.usage.tx) (once_enlisted node u.used (written node change) v)) (sym asked.1),
     )

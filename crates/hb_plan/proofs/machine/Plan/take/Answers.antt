@@ -1,6 +1,6 @@
-use Rattle.std.proofs.Common.{◌≡◌, refl, subst}
-use Rattle.hb_plan.specs.Planned.{planned_at, usage_at}
-use Rattle.hb_plan.proofs.Parts.{plan_waiting, plan_hears, plan_asks_on, set_kept}
+use Rattle.std.proofs.Common.{refl}
+use Rattle.hb_plan.specs.Planned.{planned_at}
+use Rattle.hb_plan.proofs.Parts.{plan_waiting, plan_hears, plan_asks_on}
 use Rattle.hb_plan.proofs.machine.Plan.take.Goals as goal
 
 pub take-requires : goal.take-requires
@@ -12,7 +12,3 @@ returns-clause-hears c =
 
 pub returns-clause-asking : goal.returns-clause-asking
 returns-clause-asking c = plan_asks_on (planned_at c.take.new.self) c.take.new.self c.take.result refl c.take.ensures.asking
-
-pub returns-clause-used : goal.returns-clause-used
-returns-clause-used c =
-    subst (λ p. (usage_at c.take.new.self).used ≡ p.usage.used) c.self.view_is (set_kept (usage_at c.self.inside.stage) (usage_at c.take.new.self) c.take.ensures.used)

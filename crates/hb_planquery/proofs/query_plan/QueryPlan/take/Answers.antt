@@ -1,5 +1,6 @@
 use Rattle.std.proofs.Common.{refl}
-use Rattle.hb_planquery.proofs.Steps.{refused_names, came_names, refused_rows, came_rows}
+use Rattle.hb_reading.specs.Readings.{uses}
+use Rattle.hb_planquery.proofs.Steps.{refused_names, came_names, refused_rows, came_rows, came_keeps, writes_keep}
 use Rattle.hb_planquery.proofs.query_plan.QueryPlan.take.Goals as goal
 
 pub returns-in-Refused-clause-hears : goal.returns-in-Refused-clause-hears
@@ -18,3 +19,15 @@ pub returns-in-Came-take-clause-hears : goal.returns-in-Came-take-clause-hears
 returns-in-Came-take-clause-hears c = λ told.
     came_rows _ _ c.end.new.self c.in-Rows.field-0 c.in-Rows.field-1 c.in-Rows.reading c.take-in-Rows.new.self c.args.answer c.in-Came-take.brought c.end.result c.self.view_is
     c.in-Rows.is c.in-Came-take.ensures.hears c.end.ensures.ends told
+
+pub returns-in-Came-clause-used : goal.returns-in-Came-clause-used
+returns-in-Came-clause-used c =
+    came_keeps _ _ c.find.new.self _ c.take.new.self.usage.used.0 c.find.result c.self.view_is c.in-Names.is c.in-Came.ensures.used c.find.ensures.used
+
+pub returns-in-Came-take-clause-used : goal.returns-in-Came-take-clause-used
+returns-in-Came-take-clause-used c =
+    came_keeps _ _ c.end.new.self _ (uses c.take-in-Rows.new.self).used.0 c.end.result c.self.view_is c.in-Rows.is c.in-Came-take.ensures.used c.end.ensures.used
+
+pub returns-in-Writes-clause-used : goal.returns-in-Writes-clause-used
+returns-in-Writes-clause-used c =
+    writes_keep _ _ _ _ c.take-in-Writes.new.self c.take-in-Writes.result _ c.self.view_is c.in-Writes.is refl c.written.ensures c.take-in-Writes.ensures.used
