@@ -52,7 +52,7 @@ bytes_beside : (calls : List Call) → AreBeside calls → bytes_in calls ≡ 0
 bytes_beside [] b = refl
 bytes_beside (c ∷ cs) b = let one = no_bytes c.request c.answer b.0 in let more = bytes_beside cs b.1 in omega (arith, one, more)
 
-grants_beside : (calls : List Call) → AreBeside calls → grants_in calls ≡ 0
+pub grants_beside : (calls : List Call) → AreBeside calls → grants_in calls ≡ 0
 grants_beside [] b = refl
 grants_beside (c ∷ cs) b = rw (no_grant c.request c.answer b.0) (grants_beside cs b.1)
 

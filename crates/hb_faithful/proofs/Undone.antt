@@ -17,12 +17,12 @@ use Rattle.hb_model.specs.declared.reply.Reply.{Reply}
 use Rattle.hb_model.specs.declared.reply.Reply.TheVariants as reply
 use Rattle.hb_model.specs.Does.{most_bytes}
 use Rattle.hb_model.specs.Needs.{most_locks}
-use Rattle.hb_model.specs.NodeSets.{has_node, with_node}
+use Rattle.hb_model.specs.NodeSets.{has_node}
 use Rattle.hb_model.specs.Outside.{says_undone}
 use Rattle.hb_model.specs.Refusals.{first_refusal}
 use Rattle.hb_talk.specs.Plans.{sizes, some_or, writes, writing}
 use Rattle.hb_talk.specs.Sessions.{rolls_back}
-use Rattle.hb_talk.specs.Talk.{Talk, says, asks, going_on, and_then, Use, Planning, Follows, ends, asked, waits, gone, dies, not_yet, ready, refusal_of, ◌>>=◌, ◌>>◌, pure, refused, refuse, lock, read, scan, scan_group, write, enlisted, expect, done, the_row, the_rows, met, the_tx}
+use Rattle.hb_talk.specs.Talk.{Talk, says, asks, going_on, and_then, Use, Planning, Follows, ends, asked, waits, gone, dies, not_yet, ready, refusal_of, ◌>>=◌, ◌>>◌, pure, refused, refuse, lock, read, scan, scan_group, write, enlisted, joining, expect, done, the_row, the_rows, met, the_tx}
 
 -- ---- what a talk says, whatever its answers
 
@@ -95,9 +95,11 @@ expect_says {A} shape node q u = λ a. either a (shape a)
 tells_enlisted : (node : ℕ) → Tells (enlisted node) Any
 tells_enlisted node = record { holds = λ u. cases u (has_node u.used node) }
   where
-    cases : (u : Use) (b : Bool) → Says (cond b (says (Ok tt, u)) (expect done node (request.Enlist (the_tx u)) (record u { used = with_node u.used node }))) (Ends Any)
+    cases : (u : Use) (b : Bool) → Says (cond b (says (Ok tt, u)) ((expect done node (request.Enlist (the_tx u)) >> joining node) u)) (Ends Any)
     cases u true = tt
-    cases u false = expect_says done node (request.Enlist (the_tx u)) (record u { used = with_node u.used node })
+    cases u false =
+        let q : Request = request.Enlist (the_tx u) in
+        (tells_then (expect done node q) (joining node) Any (record { holds = λ v. expect_says done node q v }) (record { holds = λ v. tt })).holds u
 
 pub tells_lock : (node : ℕ) (p : Path) (m : Mode) → Tells (lock node p m) Any
 tells_lock node p m = tells_bind (enlisted node) _ Any (tells_enlisted node) (λ _. record { holds = λ v. cases v (nat_le most_locks v.locks) })

@@ -1,5 +1,5 @@
 -- The votes, the decision, the commits and the rollbacks of a transaction are permitted.
-use Rattle.std.proofs.Common.{◌≡◌, inl, inr, ◌⊎◌, ℕ, ◌+◌, ◌≤◌, ◌<◌, Bool, true, false, List, [], ◌∷◌, ◌++◌, filter, refl, subst, sym, ap, ◌∙◌, if◌then◌else◌, arith}
+use Rattle.std.proofs.Common.{◌≡◌, inl, inr, ◌⊎◌, ℕ, ◌≤◌, Bool, true, false, List, [], ◌∷◌, ◌++◌, refl, subst, sym, ◌∙◌, if◌then◌else◌, arith}
 use Rattle.std.specs.Prelude.{IsTrue, ◌&&◌}
 use Rattle.std.specs.List.{range_with_len}
 use Rattle.std.proofs.lemmas.Bool.{false≢true}
@@ -10,17 +10,16 @@ use Rattle.hb_types.specs.declared.names.Owner.{Owner}
 use Rattle.hb_types.specs.declared.request.Request.TheVariants as request
 use Rattle.hb_types.specs.declared.request.Vote.{Vote}
 use Rattle.hb_types.specs.Lists.{Each, Has, IsIn}
-use Rattle.hb_types.proofs.Ascending.{Each-in, Has-front, Has-back}
+use Rattle.hb_types.proofs.Ascending.{Each-in, Each-of, Has-front, Has-back}
 use Rattle.hb_model.specs.declared.reply.Reply.{Reply}
-use Rattle.hb_model.specs.declared.reply.Reply.TheVariants as reply
 use Rattle.hb_model.specs.NodeSets.{has_node, with_node, nodes_in}
-use Rattle.hb_talk.specs.Ends.{ending, rollbacks, rolling_back, commits, committing, voting, voted, decided, end_refusal, is_unreached, is_done, fes1}
-use Rattle.hb_talk.specs.Talk.{Talk, Use, mgr, the_tx}
+use Rattle.hb_talk.specs.Ends.{rollbacks, rolling_back, commits, committing, voting, voted, decided, end_refusal, is_unreached, is_done, fes1}
+use Rattle.hb_talk.specs.Talk.{Use, mgr, the_tx}
 use Rattle.hb_law.specs.Callers.{is_settled}
 use Rattle.hb_obeys.proofs.Members.{AreDistinct, Has-last, filter-from, filter-to, filter-distinct, range-distinct, range-has}
 use Rattle.hb_obeys.proofs.Obeying.{Always, Caller}
-use Rattle.hb_obeys.proofs.Permits.{IsEarly, IsOff, may_abort, may_ask, may_commit, may_decide, may_undo}
-use Rattle.hb_obeys.proofs.Planning.{plainly, within}
+use Rattle.hb_obeys.proofs.Permits.{may_abort, may_ask, may_commit, may_decide, may_undo}
+use Rattle.hb_obeys.proofs.Planning.{IsWider, plainly, within}
 use Rattle.hb_obeys.proofs.Standing.{Moment, Standing, behind, inside}
 
 -- no other transaction begun
@@ -41,24 +40,36 @@ nodes_apart used = filter-distinct (has_node used) (range_with_len 0 11) (range-
 module _ (w : Caller) (begun : ℕ) where
   -- ---- rolling back
 
-  rollbacks_obey : (u : Use) (prepared : ℕ) (ns : List ℕ) (left : ℕ) (r : Reply) (ps : List ℕ) (votes : List Vote) (ds : List Answer) (b : Bool)
-      → (Has (λ a. IsTrue (is_settled a)) ds → ⊥) → Each (λ n. has_node u.used n ≡ true) ns
-      → Always w (rollbacks u prepared ns left r) (inside begun (record { tx = u.tx; used = u.used; prepared = ps; votes = votes; decisions = ds; undone = b })) (Counts begun)
-  rollbacks_obey u prepared [] left r ps votes ds b off there = ((plainly, λ front st. tt), λ a. refl)
-  rollbacks_obey u prepared (n ∷ ns) left r ps votes ds b off there =
-      let s : Standing = record { tx = u.tx; used = u.used; prepared = ps; votes = votes; decisions = ds; undone = b } in (
+  -- where at least the nodes to roll back were enlisted
+  rollbacks_obey : (u : Use) (wide prepared : ℕ) (ns : List ℕ) (left : ℕ) (r : Reply) (ps : List ℕ) (votes : List Vote) (ds : List Answer) (b : Bool)
+      → (Has (λ a. IsTrue (is_settled a)) ds → ⊥) → Each (λ n. has_node wide n ≡ true) ns
+      → Always w (rollbacks u prepared ns left r) (inside begun (record { tx = u.tx; used = wide; prepared = ps; votes = votes; decisions = ds; undone = b })) (Counts begun)
+  rollbacks_obey u wide prepared [] left r ps votes ds b off there = ((plainly, λ front st. tt), λ a. refl)
+  rollbacks_obey u wide prepared (n ∷ ns) left r ps votes ds b off there =
+      let s : Standing = record { tx = u.tx; used = wide; prepared = ps; votes = votes; decisions = ds; undone = b } in (
         (plainly, λ front st. inl (may_undo s front n there.0 off st.stands)),
-        λ a. rollbacks_obey u prepared ns (if is_unreached a && has_node prepared n then with_node left n else left) r ps votes ds true off there.1,
+        λ a. rollbacks_obey u wide prepared ns (if is_unreached a && has_node prepared n then with_node left n else left) r ps votes ds true off there.1,
+      )
+
+  rolling_back_wide : (u : Use) (wide prepared : ℕ) (r : Reply) (ps : List ℕ) (votes : List Vote) (ds : List Answer)
+      → (Has (λ a. IsTrue (is_settled a)) ds → ⊥) → Each (λ n. has_node wide n ≡ true) (nodes_in u.used)
+      → Always w (rolling_back u prepared r) (inside begun (record { tx = u.tx; used = wide; prepared = ps; votes = votes; decisions = ds; undone = false })) (Counts begun)
+  rolling_back_wide u wide prepared r ps votes ds off there =
+      let s : Standing = record { tx = u.tx; used = wide; prepared = ps; votes = votes; decisions = ds; undone = false } in (
+        (plainly, λ front st. may_abort s front off st.stands),
+        λ a. rollbacks_obey u wide prepared (nodes_in u.used) 0 r ps votes ds true off there,
       )
 
   pub rolling_back_obeys : (u : Use) (prepared : ℕ) (r : Reply) (ps : List ℕ) (votes : List Vote) (ds : List Answer)
       → (Has (λ a. IsTrue (is_settled a)) ds → ⊥)
       → Always w (rolling_back u prepared r) (inside begun (record { tx = u.tx; used = u.used; prepared = ps; votes = votes; decisions = ds; undone = false })) (Counts begun)
-  rolling_back_obeys u prepared r ps votes ds off =
-      let s : Standing = record { tx = u.tx; used = u.used; prepared = ps; votes = votes; decisions = ds; undone = false } in (
-        (plainly, λ front st. may_abort s front off st.stands),
-        λ a. rollbacks_obey u prepared (nodes_in u.used) 0 r ps votes ds true off (nodes_used u.used),
-      )
+  rolling_back_obeys u prepared r ps votes ds off = rolling_back_wide u u.used prepared r ps votes ds off (nodes_used u.used)
+
+  -- where more nodes were enlisted than are used, with nothing decided or undone
+  pub rolling_back_within : (u v : Use) (prepared : ℕ) (r : Reply) → IsWider u v → Always w (rolling_back u prepared r) (within begun v) (Counts begun)
+  rolling_back_within u v prepared r wider =
+      subst (λ tx. Always w (rolling_back u prepared r) (inside begun (record { tx = tx; used = v.used; prepared = []; votes = []; decisions = []; undone = false })) (Counts begun)) (sym wider.tx)
+      (rolling_back_wide u v.used prepared r [] [] [] (λ h. h) (Each-of (λ n. has_node u.used n ≡ true) (λ n. has_node v.used n ≡ true) (nodes_in u.used) wider.nodes (nodes_used u.used)))
 
   -- ---- committing
 

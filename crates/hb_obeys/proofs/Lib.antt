@@ -1,4 +1,3 @@
-pub mod Bits
 pub mod Members
 pub mod Standing
 pub mod Permits
@@ -10,3 +9,4 @@ pub mod Opening
 pub mod Sessions
 pub mod Settling
 pub mod Moving
+pub mod Branching

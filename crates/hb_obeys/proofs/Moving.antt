@@ -1,17 +1,14 @@
 -- pdrbal's checks, batches and finishes ask what is permitted.
-use Rattle.std.proofs.Common.{◌≡◌, inl, inr, ℕ, zero, suc, ◌+◌, ◌==◌, ◌&&◌, ℤ, nat_abs, Bool, true, false, cond, List, [], ◌∷◌, ◌++◌, filter_map, Option, Some, None, Result, Ok, Err, refl, ap, sym, subst, ◌∙◌, if◌then◌else◌, arith}
+use Rattle.std.proofs.Common.{◌≡◌, inl, inr, ℕ, zero, suc, ◌+◌, ℤ, Bool, true, false, cond, List, [], ◌∷◌, ◌++◌, filter_map, Option, Some, None, Result, Ok, Err, refl, sym, subst, arith}
 use Rattle.hb_types.specs.declared.answer.Answer.{Answer}
 use Rattle.hb_types.specs.declared.answer.Answer.TheVariants as answer
 use Rattle.hb_types.specs.declared.change.Stored.{Stored}
-use Rattle.hb_types.specs.declared.entry.Entry.{Entry}
 use Rattle.hb_types.specs.declared.entry.Entry.TheVariants.{At}
 use Rattle.hb_types.specs.declared.lock.Mode.TheVariants as mode
 use Rattle.hb_types.specs.declared.names.Number.{Number}
 use Rattle.hb_types.specs.declared.names.Owner.{Owner}
-use Rattle.hb_types.specs.declared.names.Tx.{Tx}
 use Rattle.hb_types.specs.declared.places.Path.TheVariants as path
 use Rattle.hb_types.specs.declared.request.Request.TheVariants as request
-use Rattle.hb_types.specs.declared.trail.Call.{Call}
 use Rattle.hb_types.specs.Places.{node_of_area}
 use Rattle.hb_model.specs.declared.reply.Reply.{Reply}
 use Rattle.hb_model.specs.declared.reply.Reply.TheVariants as reply
@@ -19,15 +16,15 @@ use Rattle.hb_model.specs.Dictionary.{entry_row}
 use Rattle.hb_model.specs.Shapes.{Hint}
 use Rattle.hb_model.specs.Spots.{ds, entries_space, entry_place, space_in, place_in}
 use Rattle.hb_talk.specs.Ends.{committing, rolling_back}
-use Rattle.hb_talk.specs.Moves.{Mover, Checked, Finish, other, row_there, set, Turned, again, onward, over, after_check, after_commit, after_turn, batch_ends, batch_plan, batch_turn, check, check_ends, check_plan, check_reply, check_with, finish_ends, finish_plan, finish_turn, fresh, hint_in, is_hinted, moved, moving, moving_keys, opened, rolled, setting, shown_before, turn_by, turn_on, turning}
+use Rattle.hb_talk.specs.Moves.{Mover, Checked, Finish, other, row_there, set, Turned, again, onward, over, after_check, after_commit, after_turn, batch_ends, batch_plan, batch_turn, check, check_ends, check_plan, check_reply, check_with, finish_ends, finish_plan, finish_turn, fresh, hint_in, is_hinted, moved, moving, moving_keys, opened, rolled, setting, turn_by, turn_on, turning}
 use Rattle.hb_talk.specs.Plans.{putting}
-use Rattle.hb_talk.specs.Talk.{Planning, ◌>>=◌, ◌>>◌, pure, says, Talk, Use, lock, scan_group, going_on, write}
+use Rattle.hb_talk.specs.Talk.{Planning, ◌>>=◌, ◌>>◌, pure, says, Talk, Use, lock, scan_group, going_on}
 use Rattle.hb_law.specs.Callers.{begun_count}
 use Rattle.hb_obeys.specs.Obeying.{MoversObey}
-use Rattle.hb_obeys.proofs.Endings.{Counts, committing_obeys, rolling_back_obeys}
+use Rattle.hb_obeys.proofs.Endings.{Counts, committing_obeys, rolling_back_within}
 use Rattle.hb_obeys.proofs.Obeying.{Always, Caller, always_bind, always_weaker, followed, obeys-front, obeys_from}
 use Rattle.hb_obeys.proofs.Opening.{IsNext, opened_obeys}
-use Rattle.hb_obeys.proofs.Planning.{Goes, Keeps, keeps_bind, keeps_lock, keeps_locked, keeps_pure, keeps_read, keeps_scan_group, keeps_then, keeps_write, plainly, within}
+use Rattle.hb_obeys.proofs.Planning.{Goes, IsWider, Keeps, keeps_bind, keeps_locked, keeps_pure, keeps_read, keeps_scan_group, keeps_then, keeps_write, plainly, stands_wider, wide_as_it_is, within}
 use Rattle.hb_obeys.proofs.Standing.{Moment, behind}
 use Rattle.hb_obeys.proofs.Statements.{keeps_entry, keeps_group, keeps_table_of}
 
@@ -77,35 +74,53 @@ module _ (w : Caller) (begun : ℕ) where
 
   -- ---- turns
 
+  rolled_wide : (u v : Use) (t : Turned) → IsWider u v → Always w (rolled u t) (within begun v) (Counts begun)
+  rolled_wide u v t wider = always_bind w (rolling_back u 0 reply.RolledBack) (λ r. says t) (within begun v) (Counts begun) (rolling_back_within w begun u v 0 reply.RolledBack wider)
+
   rolled_obeys : (u : Use) (t : Turned) → Always w (rolled u t) (within begun u) (Counts begun)
-  rolled_obeys u t = always_bind w (rolling_back u 0 reply.RolledBack) (λ r. says t) (within begun u) (Counts begun) (rolling_back_obeys w begun u 0 reply.RolledBack [] [] [] (λ h. h))
+  rolled_obeys u t = rolled_wide u u t (wide_as_it_is u)
 
   commits_obey : {R : Type 0} (owner : Owner) (u : Use) (shown : Number → Reply) (f : Reply → R) → Always w (going_on (λ r. says (f r)) (committing owner u shown)) (within begun u) (Counts begun)
   commits_obey owner u shown f = always_bind w (committing owner u shown) (λ r. says (f r)) (within begun u) (Counts begun) (committing_obeys w begun owner u shown)
 
-  batch_ends_obey : (owner : Owner) (h : Hint) (r : Result (Option ℕ) Reply) (u : Use) → Always w (batch_ends owner h r u) (within begun u) (Counts begun)
-  batch_ends_obey owner h (Ok (Some n)) u = commits_obey owner u (λ number. reply.Moved n h.group number) (after_commit again)
-  batch_ends_obey owner h (Ok None) u = rolled_obeys u onward
-  batch_ends_obey owner h (Err r) u = rolled_obeys u (over r)
+  -- what follows a plan is permitted, also behind a refusal with more nodes enlisted than are used
+  record Closes {A R : Type 0} (end : Result A Reply → Use → Talk R) : Type 0 where
+    ok : (a : A) (u : Use) → Always w (end (Ok a) u) (within begun u) (Counts begun)
+    err : (r : Reply) (u v : Use) → IsWider u v → Always w (end (Err r) u) (within begun v) (Counts begun)
 
-  finish_ends_obey : (owner : Owner) (h : Hint) (r : Result Finish Reply) (u : Use) → Always w (finish_ends owner h r u) (within begun u) (Counts begun)
-  finish_ends_obey owner h (Ok set) u = commits_obey owner u (λ number. reply.Moved 0 h.group number) (after_commit (λ rs. onward))
-  finish_ends_obey owner h (Ok row_there) u = rolled_obeys u (again [])
-  finish_ends_obey owner h (Ok other) u = rolled_obeys u onward
-  finish_ends_obey owner h (Err r) u = rolled_obeys u (over r)
+  batch_closes : (owner : Owner) (h : Hint) → Closes (batch_ends owner h)
+  batch_closes owner h = record { ok = by; err = λ r u v wider. rolled_wide u v (over r) wider }
+    where
+      by : (o : Option ℕ) (u : Use) → Always w (batch_ends owner h (Ok o) u) (within begun u) (Counts begun)
+      by (Some n) u = commits_obey owner u (λ number. reply.Moved n h.group number) (after_commit again)
+      by None u = rolled_obeys u onward
 
-  check_ends_obey : (owner : Owner) (r : Result (List Hint) Reply) (u : Use) → Always w (check_ends owner r u) (within begun u) (Counts begun)
-  check_ends_obey owner (Ok hints) u = commits_obey owner u reply.Complete (check_reply hints)
-  check_ends_obey owner (Err r) u = always_bind w (rolling_back u 0 r) (λ s. says (Err r)) (within begun u) (Counts begun) (rolling_back_obeys w begun u 0 r [] [] [] (λ h. h))
+  finish_closes : (owner : Owner) (h : Hint) → Closes (finish_ends owner h)
+  finish_closes owner h = record { ok = by; err = λ r u v wider. rolled_wide u v (over r) wider }
+    where
+      by : (f : Finish) (u : Use) → Always w (finish_ends owner h (Ok f) u) (within begun u) (Counts begun)
+      by set u = commits_obey owner u (λ number. reply.Moved 0 h.group number) (after_commit (λ rs. onward))
+      by row_there u = rolled_obeys u (again [])
+      by other u = rolled_obeys u onward
+
+  check_closes : (owner : Owner) → Closes (check_ends owner)
+  check_closes owner = record {
+    ok = λ hints u. commits_obey owner u reply.Complete (check_reply hints);
+    err = λ r u v wider. always_bind w (rolling_back u 0 r) (λ s. says (Err r)) (within begun v) (Counts begun) (rolling_back_within w begun u v 0 r wider);
+  }
 
   -- a plan, and the end of its transaction
-  planned_obeys : {A R : Type 0} (p : Planning A) (end : Result A Reply → Use → Talk R) → Keeps w begun [] p
-      → ((r : Result A Reply) (u : Use) → Always w (end r u) (within begun u) (Counts begun)) → (u : Use)
+  planned_obeys : {A R : Type 0} (p : Planning A) (end : Result A Reply → Use → Talk R) → Keeps w begun [] p → Closes end → (u : Use)
       → Always w (going_on (λ r. end r.0 r.1) (p u)) (within begun u) (Counts begun)
-  planned_obeys {A} p end k ends u =
+  planned_obeys {A} p end k closes u =
       always_bind w (p u) (λ r. end r.0 r.1) (within begun u) (Counts begun)
-      (always_weaker w (p u) (within begun u) (Goes begun u) (λ m r. Always w (end r.0 r.1) m (Counts begun))
-      (λ m r g. subst (λ z. Always w (end r.0 r.1) z (Counts begun)) (sym g.stands) (ends r.0 r.1)) (k.holds u tt))
+      (always_weaker w (p u) (within begun u) (Goes begun u) (λ m r. Always w (end r.0 r.1) m (Counts begun)) over (k.holds u tt))
+    where
+      over : (m : Moment) (r : Result A Reply × Use) → Goes begun u m r → Always w (end r.0 r.1) m (Counts begun)
+      over m (Ok a, v) g = subst (λ z. Always w (end (Ok a) v) z (Counts begun)) (sym g.stands) (closes.ok a v)
+      over m (Err e, v) g =
+          let wide = stands_wider begun v m e g.stands in
+          subst (λ z. Always w (end (Err e) v) z (Counts begun)) (sym wide.stands) (closes.err e v wide.wide wide.wider)
 
 -- where another turn may follow, this many begun
 abbrev AfterTurn : ℕ → Moment → Turned → Type 0
@@ -130,14 +145,14 @@ module _ (w : Caller) where
   batch_turn_obeys owner h keys m next =
       opened_obeys w owner (batch_turn owner h keys) m (AfterTurn (m.begun + 1)) next
       (λ tx. always_weaker w (batch_turn owner h keys (Ok (fresh tx.0))) (within (m.begun + 1) (fresh tx.0)) (Counts (m.begun + 1)) (AfterTurn (m.begun + 1)) (turn_of (m.begun + 1))
-      (planned_obeys w (m.begun + 1) (batch_plan h keys) (batch_ends owner h) (keeps_batch w (m.begun + 1) h keys) (batch_ends_obey w (m.begun + 1) owner h) (fresh tx.0)))
+      (planned_obeys w (m.begun + 1) (batch_plan h keys) (batch_ends owner h) (keeps_batch w (m.begun + 1) h keys) (batch_closes w (m.begun + 1) owner h) (fresh tx.0)))
       (λ r z. tt)
 
   finish_turn_obeys : (owner : Owner) (h : Hint) (m : Moment) → IsNext w m.begun owner → Always w (opened owner (finish_turn owner h)) m (AfterTurn (m.begun + 1))
   finish_turn_obeys owner h m next =
       opened_obeys w owner (finish_turn owner h) m (AfterTurn (m.begun + 1)) next
       (λ tx. always_weaker w (finish_turn owner h (Ok (fresh tx.0))) (within (m.begun + 1) (fresh tx.0)) (Counts (m.begun + 1)) (AfterTurn (m.begun + 1)) (turn_of (m.begun + 1))
-      (planned_obeys w (m.begun + 1) (finish_plan h) (finish_ends owner h) (keeps_finish w (m.begun + 1) h) (finish_ends_obey w (m.begun + 1) owner h) (fresh tx.0)))
+      (planned_obeys w (m.begun + 1) (finish_plan h) (finish_ends owner h) (keeps_finish w (m.begun + 1) h) (finish_closes w (m.begun + 1) owner h) (fresh tx.0)))
       (λ r z. tt)
 
   keys_obey : (owner : Owner) (h : Hint) (keys : List ℤ) (m : Moment) → IsNext w m.begun owner → Always w (turn_by owner h (answer.Keys keys)) m (AfterTurn (m.begun + 1))
@@ -155,7 +170,7 @@ module _ (w : Caller) where
       let owner : Owner = record { session = mover.session; nth = nth } in
       opened_obeys w owner (check_with owner mover.table) m (AfterCheck (m.begun + 1)) next
       (λ tx. always_weaker w (check_with owner mover.table (Ok (fresh tx.0))) (within (m.begun + 1) (fresh tx.0)) (Counts (m.begun + 1)) (AfterCheck (m.begun + 1)) (check_of (m.begun + 1))
-      (planned_obeys w (m.begun + 1) (check_plan mover.table) (check_ends owner) (keeps_check w (m.begun + 1) mover.table) (check_ends_obey w (m.begun + 1) owner) (fresh tx.0)))
+      (planned_obeys w (m.begun + 1) (check_plan mover.table) (check_ends owner) (keeps_check w (m.begun + 1) mover.table) (check_closes w (m.begun + 1) owner) (fresh tx.0)))
       (λ r z. tt)
 
 -- ---- the whole line

@@ -1,5 +1,5 @@
 -- The beginning of a transaction is permitted where it is the next one of its session.
-use Rattle.std.proofs.Common.{◌≡◌, ℕ, ◌+◌, Bool, true, false, List, [], Option, Result, Ok, Err, refl, subst, sym, ap, ◌∙◌}
+use Rattle.std.proofs.Common.{◌≡◌, ℕ, ◌+◌, true, [], Result, Ok, Err, sym, ap, ◌∙◌}
 use Rattle.hb_types.specs.declared.answer.Answer.{Answer}
 use Rattle.hb_types.specs.declared.answer.Answer.TheVariants as answer
 use Rattle.hb_types.specs.declared.names.Owner.{Owner}
@@ -12,7 +12,7 @@ use Rattle.hb_talk.specs.Talk.{Talk, says, asks, Use, mgr, refusal_of}
 use Rattle.hb_obeys.proofs.Endings.{rolling_back_obeys}
 use Rattle.hb_obeys.proofs.Obeying.{Always, Caller, always_bind, always_weaker}
 use Rattle.hb_obeys.proofs.Planning.{plainly, within}
-use Rattle.hb_obeys.proofs.Standing.{Moment, Standing, behind}
+use Rattle.hb_obeys.proofs.Standing.{Moment, behind}
 
 -- what follows the answer of an asking talk
 abbrev pub answered : {R : Type 0} → Talk R → Answer → Talk R

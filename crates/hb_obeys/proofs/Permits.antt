@@ -1,5 +1,5 @@
 -- What a transaction that stands so may ask.
-use Rattle.std.proofs.Common.{◌≡◌, inl, inr, ℕ, ◌≤◌, Bool, true, false, List, [], ◌∷◌, Option, Some, None, refl, sym, subst, ◌∙◌, MatchOption}
+use Rattle.std.proofs.Common.{◌≡◌, ℕ, ◌≤◌, true, false, List, [], Option, refl, sym, subst, ◌∙◌, MatchOption}
 use Rattle.std.specs.Prelude.{IsTrue}
 use Rattle.std.proofs.lemmas.Bool.{false≢true}
 use Rattle.hb_types.specs.declared.answer.Answer.{Answer}
@@ -7,14 +7,14 @@ use Rattle.hb_types.specs.declared.answer.Answer.TheVariants as answer
 use Rattle.hb_types.specs.declared.names.Number.{Number}
 use Rattle.hb_types.specs.declared.request.Vote.{Vote}
 use Rattle.hb_types.specs.declared.trail.Call.{Call}
-use Rattle.hb_types.specs.Lists.{Each, Has, IsIn}
+use Rattle.hb_types.specs.Lists.{Has, IsIn}
 use Rattle.hb_types.proofs.Ascending.{Each-in}
 use Rattle.hb_model.specs.Answers.{HasAsked, is_decide}
 use Rattle.hb_model.specs.NodeSets.{has_node}
-use Rattle.hb_talk.specs.Talk.{Use, mgr}
+use Rattle.hb_talk.specs.Talk.{mgr}
 use Rattle.hb_law.specs.Callers.{Asks, Current, IsOpen, MayCommit, MayDecide, MayEnlist, MayUndo, MayBeDecided, Own, is_enlist, is_settled, votes_in}
 use Rattle.hb_obeys.proofs.Members.{Has-in}
-use Rattle.hb_obeys.proofs.Standing.{Standing, Stands, Tells, working}
+use Rattle.hb_obeys.proofs.Standing.{Standing, Stands, Tells}
 
 -- nothing was decided or undone
 pub record IsEarly (s : Standing) : Type 0 where

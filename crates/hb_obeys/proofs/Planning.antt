@@ -1,15 +1,14 @@
 -- Plans whose requests are all permitted, step by step.
-use Rattle.std.proofs.Common.{◌≡◌, inl, inr, ℕ, ◌+◌, List, [], ◌∷◌, Option, Some, None, Result, Ok, Err, Bool, true, false, cond, refl, subst, sym, ◌∙◌}
+use Rattle.std.proofs.Common.{◌≡◌, inl, inr, ◌⊎◌, ℕ, ◌+◌, List, [], ◌∷◌, Option, Some, None, Result, Ok, Err, Bool, true, false, cond, refl, subst, sym, ◌∙◌}
 use Rattle.std.specs.Prelude.{nat_le, nat_lt}
 use Rattle.std.proofs.lemmas.Bool.{false≢true}
 use Rattle.hb_types.specs.declared.answer.Answer.{Answer}
+use Rattle.hb_types.specs.declared.answer.Answer.TheVariants as answer
 use Rattle.hb_types.specs.declared.change.Change.{Change}
-use Rattle.hb_types.specs.declared.change.Stored.{Stored}
 use Rattle.hb_types.specs.declared.lock.Mode.{Mode}
 use Rattle.hb_types.specs.declared.places.Path.{Path}
 use Rattle.hb_types.specs.declared.places.Place.{Place}
 use Rattle.hb_types.specs.declared.places.Space.{Space}
-use Rattle.hb_types.specs.declared.request.Request.{Request}
 use Rattle.hb_types.specs.declared.request.Request.TheVariants as request
 use Rattle.hb_types.specs.Lists.{Each, IsIn}
 use Rattle.hb_types.specs.Places.{node_of_area}
@@ -20,8 +19,9 @@ use Rattle.hb_model.specs.Does.{most_bytes}
 use Rattle.hb_model.specs.Needs.{most_locks}
 use Rattle.hb_model.specs.NodeSets.{has_node, with_node}
 use Rattle.hb_talk.specs.Plans.{sizes, some_or, writes, writing}
-use Rattle.hb_talk.specs.Talk.{Talk, says, asks, going_on, and_then, Use, Planning, ◌>>=◌, ◌>>◌, pure, refused, refuse, lock, read, scan, scan_group, write, enlisted, expect, done, the_row, the_rows, met, the_tx}
-use Rattle.hb_obeys.proofs.Bits.{with_it, with_others}
+use Rattle.hb_talk.specs.Sessions.{rolls_back}
+use Rattle.hb_talk.specs.Talk.{says, and_then, Use, Planning, ◌>>=◌, ◌>>◌, pure, refused, refuse, lock, read, scan, scan_group, write, enlisted, joining, refusal_of, expect, done, the_row, the_rows, met, the_tx}
+use Rattle.hb_talk.proofs.Bits.{with_it, with_others}
 use Rattle.hb_obeys.proofs.Obeying.{Always, Caller, always_bind, always_weaker}
 use Rattle.hb_obeys.proofs.Permits.{IsEarly, may_enlist, may_ask}
 use Rattle.hb_obeys.proofs.Standing.{Moment, inside, working}
@@ -30,23 +30,82 @@ use Rattle.hb_obeys.proofs.Standing.{Moment, inside, working}
 abbrev pub within : ℕ → Use → Moment
 within begun u = inside begun (working u)
 
+-- a use of the same transaction, with no node less
+pub record IsWider (u w : Use) : Type 0 where
+  pub tx : w.tx ≡ u.tx
+  pub nodes : (n : ℕ) → has_node u.used n ≡ true → has_node w.used n ≡ true
+
+-- the calls come to a wider use
+pub record StandsWider (begun : ℕ) (u : Use) (m : Moment) : Type 0 where
+  pub wide : Use
+  pub stands : m ≡ within begun wide
+  pub wider : IsWider u wide
+
+-- behind a refusal the calls come to the use; there may be more nodes enlisted than are used where the transaction is rolled back for it
+abbrev pub StandsRefused : ℕ → Moment → Reply → Use → Type 0
+StandsRefused begun m e u = (m ≡ within begun u) ⊎ ((rolls_back e ≡ true) × StandsWider begun u m)
+
+-- behind any end of a plan
+abbrev pub StandsAs : {A : Type 0} → ℕ → Moment → Result A Reply → Use → Type 0
+StandsAs begun m (Ok a) u = m ≡ within begun u
+StandsAs begun m (Err e) u = StandsRefused begun m e u
+
 -- the transaction goes on, with no node less
 pub record Goes {A : Type 0} (begun : ℕ) (u : Use) (m : Moment) (r : Result A Reply × Use) : Type 0 where
-  pub stands : m ≡ within begun r.1
+  pub stands : StandsAs begun m r.0 r.1
   pub tx : r.1.tx ≡ u.tx
   pub nodes : (n : ℕ) → has_node u.used n ≡ true → has_node r.1.used n ≡ true
 
+-- unless it is refused, the node is used
+abbrev pub IsThere : {A : Type 0} → ℕ → Result A Reply → Use → Type 0
+IsThere node (Ok a) u = has_node u.used node ≡ true
+IsThere node (Err e) u = Unit {0}
+
 pub record GoesAt {A : Type 0} (node begun : ℕ) (u : Use) (m : Moment) (r : Result A Reply × Use) : Type 0 where
   pub goes : Goes begun u m r
-  pub there : has_node r.1.used node ≡ true
+  pub there : IsThere node r.0 r.1
+
+pub wide_as_it_is : (u : Use) → IsWider u u
+wide_as_it_is u = record { tx = refl; nodes = λ n h. h }
+
+-- a use with one node more
+pub wider_by : (u : Use) (node : ℕ) → IsWider u (record u { used = with_node u.used node })
+wider_by u node = record { tx = refl; nodes = λ n h. with_others u.used node n h }
+
+-- behind a refusal the calls come to a wider use
+pub stands_wider : (begun : ℕ) (u : Use) (m : Moment) (e : Reply) → StandsRefused begun m e u → StandsWider begun u m
+stands_wider begun u m e (inl same) = record { wide = u; stands = same; wider = wide_as_it_is u }
+stands_wider begun u m e (inr more) = more.1
+
+-- behind one for which the transaction goes on they come to the use
+pub stands_same : (begun : ℕ) (u : Use) (m : Moment) (e : Reply) → StandsRefused begun m e u → rolls_back e ≡ false → m ≡ within begun u
+stands_same begun u m e (inl same) goes = same
+stands_same begun u m e (inr more) goes = absurd (false≢true (sym goes ∙ more.0))
+
+stands_here : {A : Type 0} (begun : ℕ) (u : Use) (r : Result A Reply) → StandsAs begun (within begun u) r u
+stands_here begun u (Ok a) = refl
+stands_here begun u (Err e) = inl refl
+
+there_still : {A : Type 0} (node : ℕ) (u : Use) (r : Result A Reply) → has_node u.used node ≡ true → IsThere node r u
+there_still node u (Ok a) there = there
+there_still node u (Err e) there = tt
 
 pub goes_nowhere : {A : Type 0} (begun : ℕ) (u : Use) (r : Result A Reply) → Goes begun u (within begun u) (r, u)
-goes_nowhere begun u r = record { stands = refl; tx = refl; nodes = λ n h. h }
+goes_nowhere begun u r = record { stands = stands_here begun u r; tx = refl; nodes = λ n h. h }
+
+-- every answer other than the one asked for rolls the transaction back
+pub refusals_roll_back : (node : ℕ) (a : Answer) → rolls_back (refusal_of node a) ≡ true
+refusals_roll_back node answer.Down = refl
+refusals_roll_back node (answer.Fault area) = refl
+refusals_roll_back node (answer.Cycle edges) = refl
+refusals_roll_back node answer.NumbersSpent = refl
+refusals_roll_back node answer.NoMemory = refl
+refusals_roll_back node _ = refl
 
 pub goes_further : {A B : Type 0} (begun : ℕ) (u : Use) (s z : Moment) (r : Result A Reply × Use) (q : Result B Reply × Use) → Goes begun u s r → Goes begun r.1 z q → Goes begun u z q
 goes_further begun u s z r q g h = record { stands = h.stands; tx = h.tx ∙ g.tx; nodes = λ n x. h.nodes n (g.nodes n x) }
 
-early : (u : Use) → IsEarly (working u)
+pub early : (u : Use) → IsEarly (working u)
 early u = record { undecided = refl; not_undone = refl }
 
 -- what is false is not true
@@ -118,15 +177,21 @@ module _ (w : Caller) (begun : ℕ) where
       v : Use
       v = record u { used = with_node u.used node }
 
+      joined : GoesAt {A = Unit {0}} node begun u (within begun v) (Ok tt, v)
+      joined = record { goes = record { stands = refl; tx = refl; nodes = λ n h. with_others u.used node n h }; there = with_it u.used node }
+
+      lost : (a : Answer) → GoesAt {A = Unit {0}} node begun u (within begun v) (Err (refusal_of node a), u)
+      lost a = record {
+        goes = record { stands = inr (refusals_roll_back node a, record { wide = v; stands = refl; wider = wider_by u node }); tx = refl; nodes = λ n h. h };
+        there = tt;
+      }
+
       cases : (b : Bool) → has_node u.used node ≡ b
-          → Always w (cond b (says (Ok tt, u)) (expect done node (request.Enlist (the_tx u)) (record u { used = with_node u.used node }))) (within begun u) (GoesAt node begun u)
+          → Always w (cond b (says (Ok tt, u)) ((expect done node (request.Enlist (the_tx u)) >> joining node) u)) (within begun u) (GoesAt node begun u)
       cases true e = record { goes = goes_nowhere begun u (Ok tt); there = e }
       cases false e = (
         (plainly, λ front st. may_enlist (working u) front node (early u) e st.stands),
-        λ a. record {
-          goes = record { stands = refl; tx = refl; nodes = λ n h. with_others u.used node n h };
-          there = with_it u.used node;
-        },
+        λ a. elim a as (λ x. Always w (and_then (λ _. joining node) u (met node x (done x))) (within begun v) (GoesAt node begun u)) [ answer.Done ↦ joined | x ↦ lost x ],
       )
 
   -- what follows an Enlist
@@ -150,11 +215,15 @@ module _ (w : Caller) (begun : ℕ) where
 
       by_limit : (v : Use) → has_node v.used node ≡ true → (b : Bool)
           → Always w (cond b (says (Err reply.TooMuch, v)) (expect done node (request.Lock (the_tx v) p m) (record v { locks = v.locks + 1 }))) (within begun v) (GoesAt node begun v)
-      by_limit v there true = record { goes = goes_nowhere begun v (Err reply.TooMuch); there = there }
-      by_limit v there false = (
-        (plainly, λ front st. may_ask (working v) front node (early v) there (λ h. h) st.stands),
-        λ a. record { goes = record { stands = refl; tx = refl; nodes = λ n h. h }; there = there },
-      )
+      by_limit v there true = record { goes = goes_nowhere begun v (Err reply.TooMuch); there = tt }
+      by_limit v there false =
+          let more : Use = record v { locks = v.locks + 1 } in (
+            (plainly, λ front st. may_ask (working v) front node (early v) there (λ h. h) st.stands),
+            λ a. record {
+              goes = record { stands = stands_here begun more (met node a (done a)); tx = refl; nodes = λ n h. h };
+              there = there_still node more (met node a (done a)) there;
+            },
+          )
 
   pub keeps_lock : (node : ℕ) (p : Path) (m : Mode) → Keeps [] (lock node p m)
   keeps_lock node p m = record {
@@ -180,7 +249,7 @@ module _ (w : Caller) (begun : ℕ) where
     holds = λ u e. always_weaker w (write node c u) (within begun u) (GoesAt node begun u) (Goes begun u) (λ z r h. h.goes)
         (behind_enlist node (λ v. expect done node (request.Write (the_tx v) c) v) (λ v there. (
           (plainly, λ front st. may_ask (working v) front node (early v) there (λ h. h) st.stands),
-          λ a. record { goes = record { stands = refl; tx = refl; nodes = λ n h. h }; there = there },
+          λ a. record { goes = goes_nowhere begun v (met node a (done a)); there = there_still node v (met node a (done a)) there },
         )) u);
   }
 

@@ -1,29 +1,21 @@
 -- A transaction of any statements asks what is permitted, from its Begin on.
-use Rattle.std.proofs.Common.{◌≡◌, ℕ, Bool, true, false, cond, List, [], ◌∷◌, ◌++◌, Option, None, Result, Ok, Err, ◌+◌, refl, subst, sym, append-nil}
-use Rattle.std.proofs.lemmas.Bool.{false≢true}
-use Rattle.hb_types.specs.declared.answer.Answer.{Answer}
-use Rattle.hb_types.specs.declared.answer.Answer.TheVariants as answer
+use Rattle.std.proofs.Common.{◌≡◌, ℕ, Bool, true, false, cond, List, [], ◌∷◌, ◌++◌, None, Result, Ok, Err, ◌+◌, refl, subst, sym}
 use Rattle.hb_types.specs.declared.names.Owner.{Owner}
-use Rattle.hb_types.specs.declared.names.Tx.{Tx}
-use Rattle.hb_types.specs.declared.request.Request.TheVariants as request
-use Rattle.hb_types.specs.declared.trail.Call.{Call}
-use Rattle.hb_types.specs.Lists.{Each}
-use Rattle.hb_model.specs.Answers.{call}
 use Rattle.hb_model.specs.declared.reply.Reply.{Reply}
 use Rattle.hb_model.specs.declared.reply.Reply.TheVariants as reply
 use Rattle.hb_model.specs.declared.statement.Statement.{Statement}
 use Rattle.hb_model.specs.declared.statement.Statement.TheVariants as statement
-use Rattle.hb_talk.specs.Ends.{committing, rolling_back, fes1}
-use Rattle.hb_talk.specs.Moves.{fresh, opened}
+use Rattle.hb_talk.specs.Ends.{committing, rolling_back}
+use Rattle.hb_talk.specs.Moves.{fresh}
 use Rattle.hb_talk.specs.PlansDefine.{plan}
 use Rattle.hb_talk.specs.Sessions.{after, begun_with, going, rolls_back, transaction, with_reply}
-use Rattle.hb_talk.specs.Talk.{Talk, says, asks, going_on, Begins, Follows, ends, asked, Use, mgr, refusal_of}
+use Rattle.hb_talk.specs.Talk.{Talk, says, going_on, Use}
 use Rattle.hb_law.specs.Callers.{begun_count}
-use Rattle.hb_obeys.specs.Obeying.{IsOfSystem, TransactionsObey}
-use Rattle.hb_obeys.proofs.Endings.{Counts, committing_obeys, rolling_back_obeys}
+use Rattle.hb_obeys.specs.Obeying.{TransactionsObey}
+use Rattle.hb_obeys.proofs.Endings.{Counts, committing_obeys, rolling_back_obeys, rolling_back_within}
 use Rattle.hb_obeys.proofs.Obeying.{Always, Caller, always_bind, always_weaker, followed, obeys-front, obeys_from}
 use Rattle.hb_obeys.proofs.Opening.{IsNext, opened_obeys}
-use Rattle.hb_obeys.proofs.Planning.{Goes, within}
+use Rattle.hb_obeys.proofs.Planning.{Goes, StandsWider, stands_same, stands_wider, within}
 use Rattle.hb_obeys.proofs.Standing.{Moment}
 use Rattle.hb_obeys.proofs.Statements.{keeps_plan}
 
@@ -36,11 +28,16 @@ module _ (w : Caller) (begun : ℕ) where
       → (u : Use) (s : Moment) (r : Result Reply Reply × Use) → Goes begun u s r → Always w (after go r.0 r.1) s (Counts begun)
   after_obeys go next u s (Ok x, v) h =
       subst (λ z. Always w (with_reply x (go v)) z (Counts begun)) (sym h.stands) (telling (λ rs. x ∷ rs) (go v) (within begun v) (next v))
-  after_obeys go next u s (Err x, v) h = subst (λ z. Always w (after go (Err x) v) z (Counts begun)) (sym h.stands) (by (rolls_back x))
+  after_obeys go next u s (Err x, v) h = by (rolls_back x) refl
     where
-      by : (b : Bool) → Always w (cond b (going_on (λ s. says (s ∷ [])) (rolling_back v 0 x)) (with_reply x (go v))) (within begun v) (Counts begun)
-      by true = telling (λ s. s ∷ []) (rolling_back v 0 x) (within begun v) (rolling_back_obeys w begun v 0 x [] [] [] (λ h. h))
-      by false = telling (λ rs. x ∷ rs) (go v) (within begun v) (next v)
+      wider : StandsWider begun v s
+      wider = stands_wider begun v s x h.stands
+
+      by : (b : Bool) → rolls_back x ≡ b → Always w (cond b (going_on (λ s. says (s ∷ [])) (rolling_back v 0 x)) (with_reply x (go v))) s (Counts begun)
+      by true e = telling (λ r. r ∷ []) (rolling_back v 0 x) s
+          (subst (λ z. Always w (rolling_back v 0 x) z (Counts begun)) (sym wider.stands) (rolling_back_within w begun v wider.wide 0 x wider.wider))
+      by false e = telling (λ rs. x ∷ rs) (go v) s
+          (subst (λ z. Always w (go v) z (Counts begun)) (sym (stands_same begun v s x h.stands e)) (next v))
 
   -- a statement, and those behind it
   statement_obeys : (back_ends : ℕ) (st : Statement) (go : Use → Talk (List Reply)) → ((v : Use) → Always w (go v) (within begun v) (Counts begun)) → (u : Use)

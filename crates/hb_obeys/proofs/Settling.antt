@@ -1,5 +1,5 @@
 -- A driver that settles a branch by its outcome asks what is permitted.
-use Rattle.std.proofs.Common.{◌≡◌, inl, inr, ℕ, zero, suc, ◌==◌, Bool, true, false, cond, List, [], ◌∷◌, ◌++◌, Option, Some, None, refl, ap, sym, ◌∙◌, arith}
+use Rattle.std.proofs.Common.{◌≡◌, inr, ℕ, ◌==◌, true, false, List, [], ◌∷◌, ◌++◌, Option, Some, None, refl, ap, sym, ◌∙◌, arith}
 use Rattle.std.specs.Prelude.{if◌then◌else◌}
 use Rattle.hb_types.specs.declared.answer.Answer.{Answer}
 use Rattle.hb_types.specs.declared.answer.Answer.TheVariants as answer
@@ -10,8 +10,8 @@ use Rattle.hb_types.specs.declared.request.Request.TheVariants as request
 use Rattle.hb_types.specs.declared.trail.Call.{Call}
 use Rattle.hb_model.specs.Answers.{call}
 use Rattle.hb_talk.specs.Ends.{fes1, settling}
-use Rattle.hb_talk.specs.Talk.{Talk, says, asks, Begins, Follows, ends, asked, Use, the_tx}
-use Rattle.hb_law.specs.Callers.{ObeysFrom, Permitted, SettlesAs, last_outcome, outcome_or}
+use Rattle.hb_talk.specs.Talk.{Talk, says, asks, Follows, ends, asked, Use, the_tx}
+use Rattle.hb_law.specs.Callers.{ObeysFrom, SettlesAs, last_outcome, outcome_or}
 use Rattle.hb_obeys.specs.Obeying.{SettlersObey}
 use Rattle.hb_obeys.proofs.Opening.{answered}
 

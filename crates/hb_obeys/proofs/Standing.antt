@@ -10,7 +10,7 @@ use Rattle.hb_types.specs.declared.request.Request.{Request}
 use Rattle.hb_types.specs.declared.request.Request.TheVariants as request
 use Rattle.hb_types.specs.declared.request.Vote.{Vote}
 use Rattle.hb_types.specs.declared.trail.Call.{Call}
-use Rattle.hb_types.specs.Lists.{Each, Has, IsIn}
+use Rattle.hb_types.specs.Lists.{Has, IsIn}
 use Rattle.hb_types.proofs.Ascending.{Has-front, Has-back}
 use Rattle.hb_model.specs.Answers.{HasAsked, call, is_decide, is_undoing}
 use Rattle.hb_model.specs.NodeSets.{has_node, with_node}
@@ -19,7 +19,7 @@ use Rattle.hb_talk.specs.Talk.{Use, mgr}
 use Rattle.hb_law.specs.Callers.{Current, adding, current, current_from, one_more, begun_count, is_begun, is_enlist, is_prepare, is_settled, AsksAt, HasAskedAt, vote_in, votes_in, WasDecided, MayBeDecided}
 use Rattle.std.proofs.lemmas.Nat.Bits.{bit_at-zero}
 use Rattle.hb_obeys.specs.Obeying.{IsOfSystem, is_begin}
-use Rattle.hb_obeys.proofs.Bits.{with_it, with_others, only_with}
+use Rattle.hb_talk.proofs.Bits.{with_it, with_others, only_with}
 use Rattle.hb_obeys.proofs.Members.{Has-last}
 
 -- the nodes enlisted, those asked to prepare, the votes, what Decide was answered, and whether something was undone

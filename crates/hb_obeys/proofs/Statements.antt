@@ -1,5 +1,5 @@
 -- Each statement's plan asks what is permitted.
-use Rattle.std.proofs.Common.{◌≡◌, inl, inr, ℕ, ◌+◌, ℤ, List, [], ◌∷◌, ◌++◌, length, map, filter, Option, Some, None, Bool, refl, take}
+use Rattle.std.proofs.Common.{inl, ℕ, ◌+◌, ℤ, List, [], ◌∷◌, ◌++◌, length, map, filter, Option, Some, None, Bool, refl, take}
 use Rattle.std.specs.Prelude.{flat_map, unwrap_or, if◌then◌else◌}
 use Rattle.std.specs.Option.{option_to_list, option_or}
 use Rattle.hb_types.specs.declared.change.Stored.{Stored}
@@ -11,7 +11,6 @@ use Rattle.hb_types.specs.declared.value.Value.{Value}
 use Rattle.hb_types.specs.Groups.{group_of, route, reassign, target}
 use Rattle.hb_types.specs.Places.{node_of_area}
 use Rattle.hb_model.specs.declared.condition.Pred.{Pred}
-use Rattle.hb_model.specs.declared.reply.Reply.{Reply}
 use Rattle.hb_model.specs.declared.reply.Reply.TheVariants as reply
 use Rattle.hb_model.specs.declared.statement.Set.{Set}
 use Rattle.hb_model.specs.declared.statement.Statement.{Statement}

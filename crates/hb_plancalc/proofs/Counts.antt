@@ -24,7 +24,7 @@ use Rattle.hb_model.specs.Needs.{most_locks}
 use Rattle.hb_model.specs.NodeSets.{has_node, with_node}
 use Rattle.hb_model.specs.Outside.{is_outside}
 use Rattle.hb_talk.specs.Plans.{sizes, some_or, writes, writing}
-use Rattle.hb_talk.specs.Talk.{Talk, says, asks, going_on, and_then, Use, Planning, Follows, ends, asked, waits, gone, dies, not_yet, ready, is_end_of_wait, mgr, ◌>>=◌, ◌>>◌, pure, refused, refuse, lock, read, scan, scan_group, write, enlisted, expect, done, the_row, the_rows, met, the_tx}
+use Rattle.hb_talk.specs.Talk.{Talk, says, asks, going_on, and_then, Use, Planning, Follows, ends, asked, waits, gone, dies, not_yet, ready, is_end_of_wait, mgr, ◌>>=◌, ◌>>◌, pure, refused, refuse, lock, read, scan, scan_group, write, enlisted, joining, expect, done, the_row, the_rows, met, the_tx}
 use Rattle.hb_plancalc.proofs.Comes.{locks_with, bytes_with, counted, locks_step, bytes_step}
 use Rattle.hb_plancalc.proofs.Steps.{never}
 
@@ -159,13 +159,13 @@ keeps_scan_group node space group = record {
 enlists : (node : ℕ) (u : Use) (n b : ℕ) (Q : ℕ → ℕ → Unit {0} → Use → Type 0) → ((v : Use) → v.locks ≡ u.locks → v.bytes ≡ u.bytes → Q n b tt v) → Always (enlisted node u) n b (Out Q)
 enlists node u n b Q q =
     cases (has_node u.used node) (q u refl refl)
-    (refl, λ a. elim a as (λ x. Out Q n b (met node x (done x), v)) [ answer.Done ↦ q v refl refl | x ↦ λ i. never node x i ])
+    (refl, λ a. elim a as (λ x. Always (and_then (λ _. joining node) u (met node x (done x))) n b (Out Q)) [ answer.Done ↦ q v refl refl | x ↦ λ i. never node x i ])
   where
     v : Use
     v = record u { used = with_node u.used node }
 
-    cases : (t : Bool) → Q n b tt u → Always (expect done node (request.Enlist (the_tx u)) (record u { used = with_node u.used node })) n b (Out Q)
-        → Always (cond t (says (Ok tt, u)) (expect done node (request.Enlist (the_tx u)) (record u { used = with_node u.used node }))) n b (Out Q)
+    cases : (t : Bool) → Q n b tt u → Always ((expect done node (request.Enlist (the_tx u)) >> joining node) u) n b (Out Q)
+        → Always (cond t (says (Ok tt, u)) ((expect done node (request.Enlist (the_tx u)) >> joining node) u)) n b (Out Q)
     cases true x y = x
     cases false x y = y
 

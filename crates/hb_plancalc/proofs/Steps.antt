@@ -24,7 +24,7 @@ use Rattle.hb_model.specs.NodeSets.{has_node, with_node}
 use Rattle.hb_model.specs.Outside.{is_outside}
 use Rattle.hb_model.specs.Spots.{space_in}
 use Rattle.hb_talk.specs.Plans.{locking}
-use Rattle.hb_talk.specs.Talk.{says, Use, Planning, lock, read, scan, scan_group, write, enlisted, expect, done, the_row, the_rows, met, refusal_of, the_tx}
+use Rattle.hb_talk.specs.Talk.{says, Use, Planning, and_then, ◌>>◌, joining, lock, read, scan, scan_group, write, enlisted, expect, done, the_row, the_rows, met, refusal_of, the_tx}
 use Rattle.hb_plancalc.proofs.Comes.{Stand, Comes, Outcome, Plans, plans_bind, with_answer}
 
 -- an answer that isn't the one asked for is an outside reply
@@ -53,11 +53,11 @@ module _ (F : Stand → Reply → Use → Type 0) where
   enlisted_comes node u s Q q =
       let v : Use = record u { used = with_node u.used node } in
       cases (has_node u.used node) (q u (record { locks = refl; bytes = refl }))
-      (λ a h. elim a as (λ x. Outcome Q F s (met node x (done x), v)) [ answer.Done ↦ q v (record { locks = refl; bytes = refl }) | x ↦ λ n. never node x n ])
+      (λ a h. elim a as (λ x. Comes (and_then (λ _. joining node) u (met node x (done x))) s (Outcome Q F)) [ answer.Done ↦ q v (record { locks = refl; bytes = refl }) | x ↦ λ n. never node x n ])
     where
       cases : (b : Bool) → Q s tt u
-          → Comes (expect done node (request.Enlist (the_tx u)) (record u { used = with_node u.used node })) s (Outcome Q F)
-          → Comes (cond b (says (Ok tt, u)) (expect done node (request.Enlist (the_tx u)) (record u { used = with_node u.used node }))) s (Outcome Q F)
+          → Comes ((expect done node (request.Enlist (the_tx u)) >> joining node) u) s (Outcome Q F)
+          → Comes (cond b (says (Ok tt, u)) ((expect done node (request.Enlist (the_tx u)) >> joining node) u)) s (Outcome Q F)
       cases true x y = x
       cases false x y = y
 

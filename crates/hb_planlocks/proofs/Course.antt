@@ -26,9 +26,9 @@ use Rattle.hb_model.specs.Answers.{call, given, rows_answered}
 use Rattle.hb_model.specs.Asked.{AreUnder, AreWhereAsked, IsWhereAsked}
 use Rattle.hb_model.specs.Does.{most_bytes}
 use Rattle.hb_model.specs.Needs.{most_locks}
-use Rattle.hb_model.specs.NodeSets.{has_node, with_node}
+use Rattle.hb_model.specs.NodeSets.{has_node}
 use Rattle.hb_talk.specs.Plans.{sizes, some_or, writes, writing}
-use Rattle.hb_talk.specs.Talk.{Begins, Talk, says, asks, going_on, and_then, Use, Planning, Follows, ends, asked, waits, gone, dies, not_yet, ready, is_end_of_wait, mgr, refusal_of, ◌>>=◌, lock, read, scan, scan_group, write, enlisted, expect, done, the_row, the_rows, met, refuse, refused, the_tx}
+use Rattle.hb_talk.specs.Talk.{Begins, Talk, says, asks, going_on, and_then, Use, Planning, Follows, ends, asked, waits, gone, dies, not_yet, ready, is_end_of_wait, mgr, refusal_of, ◌>>=◌, ◌>>◌, joining, lock, read, scan, scan_group, write, enlisted, expect, done, the_row, the_rows, met, refuse, refused, the_tx}
 
 given_more : (before : List Call) (c : Call) → given (before ++ c ∷ []) ≡ given before ++ rows_answered c.request c.answer
 given_more [] c = append-nil (rows_answered c.request c.answer)
@@ -227,9 +227,10 @@ module _ (R : Rule) where
   bears_enlisted : (node : ℕ) (u : Use) (g : List Stored) (Q : List Stored → Unit {0} → Type 0) → Q g tt → Bearing (enlisted node) u g Q
   bears_enlisted node u g Q q = cases (has_node u.used node)
     where
-      cases : (b : Bool) → Bears (cond b (says (Ok tt, u)) (expect done node (request.Enlist (the_tx u)) (record u { used = with_node u.used node }))) g (Goes Q)
+      cases : (b : Bool) → Bears (cond b (says (Ok tt, u)) ((expect done node (request.Enlist (the_tx u)) >> joining node) u)) g (Goes Q)
       cases true = q
-      cases false = bears_done node (request.Enlist (the_tx u)) (record u { used = with_node u.used node }) g Q (R.free g node (request.Enlist (the_tx u)) refl) q
+      cases false = bearing_bind (expect done node (request.Enlist (the_tx u))) (λ _. joining node) u g Q
+          (bears_done node (request.Enlist (the_tx u)) u g (λ h a. (v : Use) → Bearing (joining node) v h Q) (R.free g node (request.Enlist (the_tx u)) refl) (λ v. q))
 
   pub bears_lock : (node : ℕ) (p : Path) (m : Mode) (u : Use) (g : List Stored) (Q : List Stored → Unit {0} → Type 0) → ((tx : Tx) → R.May g node (request.Lock tx p m)) → Q g tt
       → Bearing (lock node p m) u g Q
