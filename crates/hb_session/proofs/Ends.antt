@@ -1,5 +1,5 @@
 -- How a transaction ends: the driver's talk is that of the session.
-use Rattle.std.proofs.Common.{◌≡◌, ℕ, Bool, true, false, List, [], ◌∷◌, refl, ap, sym, ◌∙◌, inl}
+use Rattle.std.proofs.Common.{◌≡◌, ℕ, Bool, true, false, List, [], ◌∷◌, refl, ap, sym, ◌∙◌, subst, inl, inr}
 use Rattle.std.proofs.lemmas.Bool.{false≢true}
 use Rattle.hb_types.specs.declared.answer.Answer.{Answer}
 use Rattle.hb_types.specs.declared.names.Left.{Left}
@@ -29,8 +29,8 @@ use Rattle.hb_session.specs.declared.session.Progress.TheVariants as progress
 use Rattle.hb_session.specs.declared.stage.Ending.{Ending}
 use Rattle.hb_session.specs.declared.stage.Stage.{Stage}
 use Rattle.hb_session.specs.declared.stage.Stage.TheVariants as stage
-use Rattle.hb_session.specs.Sitting.{Sitting, finishing, owner, replies, stands_at}
-use Rattle.hb_session.specs.Steps.{edges_heard, Gives, Makes}
+use Rattle.hb_session.specs.Sitting.{Sitting, finishing, in_transaction, is_ending, owner, replies, stands_at}
+use Rattle.hb_session.specs.Steps.{edges_heard, Gives, GivesAt, Makes}
 
 abbrev pub ends_with : Usage → Driving → Reply → Stage
 ends_with u d back = stage.Ends (record { usage = u; driver = d; back = record { reply = back } })
@@ -61,6 +61,7 @@ commit_given s u d back at e f talk =
       begun = refl;
       busy = refl;
       talk = λ sts. ap (stands_at s (statement.Commit ∷ sts)) at ∙ ap free (open_commit s.back_ends s sts (use_of u)) ∙ ap (λ t. free (finishing t)) (sym whole);
+      moves = subst (λ g. GivesAt g (ends_with u d back)) (sym at) (inr refl);
     }
 
 -- ---- no Lock is asked where a transaction ends
@@ -122,19 +123,21 @@ end_asks s e d f node q a next hears =
       goes = λ told. inl (λ sts. ap (λ t. after_call (free (finishing t)) a) eq
           ∙ ap (by_heard (λ x. finishing (k x))) plain
           ∙ ap (λ t. free (finishing t)) (sym (hears.talk rs e.usage.locks e.usage.bytes)));
+      moves = refl;
       edges = ap edges_heard (sym plain);
       begun = refl;
     }
 
-pub end_told : (s : Sitting) (e : Ending) (left : Left) (r : Reply) (a : Answer) → e.driver.tx ≡ e.usage.tx
+pub end_told : (s : Sitting) (e : Ending) (left : Left) (r : Reply) (a : Answer) → s.stage ≡ stage.Idle → e.driver.tx ≡ e.usage.tx
     → driver_talks (replies s e.back.reply) e.driver e.usage.locks e.usage.bytes ≡ ending (using e.driver e.usage.locks e.usage.bytes) left.0 r
     → Makes (record s { stage = stage.Ends e }) s (pending.Asks (record { 0 = 10 }) (request.End e.usage.tx left)) a (progress.Ended r)
-end_told s e left r a tx talk =
+end_told s e left r a idle tx talk =
     let asks_end : Tx → Talk Reply = λ t. asks 10 (request.End t left) (λ x. says r) in
     let eq : driver_talks (replies s e.back.reply) e.driver e.usage.locks e.usage.bytes ≡ asks_end e.usage.tx = talk ∙ ap asks_end tx in
     record {
       next = λ sts. ap (λ t. next_in (free (finishing t))) eq;
       goes = λ told. inl (λ sts. ap (λ t. after_call (free (finishing t)) a) eq);
+      moves = ap (λ g. is_ending g) idle ∙ sym (ap (λ g. in_transaction g) idle);
       edges = refl;
       begun = refl;
     }

@@ -1,18 +1,19 @@
 -- A step of a statement's plan is one of the session's talk.
-use Rattle.std.proofs.Common.{◌≡◌, ℕ, true, false, ◌⊎◌, List, Some, Ok, Err, refl, ap, sym, ◌∙◌, subst, inl, inr}
+use Rattle.std.proofs.Common.{◌≡◌, true, ◌⊎◌, List, Some, Ok, refl, ap, sym, ◌∙◌, subst, inl, inr}
 use Rattle.hb_types.specs.declared.answer.Answer.{Answer}
 use Rattle.hb_types.specs.declared.answer.Edge.{Edge}
 use Rattle.hb_types.specs.declared.names.NodeName.{NodeName}
 use Rattle.hb_types.specs.declared.request.Request.{Request}
+use Rattle.hb_types.specs.Lists.{Each}
+use Rattle.hb_model.specs.NodeSets.{has_node, nodes_in}
 use Rattle.hb_model.specs.declared.reply.Reply.{Reply}
-use Rattle.hb_model.specs.declared.reply.Reply.TheVariants as reply
 use Rattle.hb_model.specs.declared.statement.Statement.{Statement}
-use Rattle.hb_talk.specs.Sessions.{rolls_back}
-use Rattle.hb_talk.specs.Talk.{Talk, says, asks, Use}
-use Rattle.hb_access.specs.Accesses.{use_of}
+use Rattle.hb_talk.specs.Talk.{Talk, says, asks}
+use Rattle.hb_access.specs.Accesses.{at_branch, use_of, used_after}
+use Rattle.hb_access.specs.declared.access.Next.TheVariants as next
 use Rattle.hb_access.specs.declared.usage.Usage.{Usage}
 use Rattle.hb_plan.specs.Planned.{IsTold, Planned, Said, now_talks, now_hears}
-use Rattle.hb_wait.specs.Courses.{Course, free, halted, next_in, by_heard, after_call, pending_in}
+use Rattle.hb_wait.specs.Courses.{free, next_in, by_heard, after_call, pending_in}
 use Rattle.hb_wait.specs.Waiting.{heard}
 use Rattle.hb_wait.specs.declared.pending.Heard.{Heard}
 use Rattle.hb_wait.specs.declared.pending.Heard.TheVariants as heard_as
@@ -23,8 +24,9 @@ use Rattle.hb_session.specs.declared.session.Progress.{Progress}
 use Rattle.hb_session.specs.declared.session.Progress.TheVariants as progress
 use Rattle.hb_session.specs.declared.stage.Asking.{Asking}
 use Rattle.hb_session.specs.declared.stage.Stage.TheVariants as stage
-use Rattle.hb_session.specs.Sitting.{Sitting, finishing, owner, planned, stands, stands_at}
-use Rattle.hb_session.specs.Steps.{CarriesOn, CarriesOnIf, IsToldBy, Leads, Makes, RollsBack, RunsOut, edges_heard, said}
+use Rattle.hb_session.specs.Sitting.{Sitting, planned, stands_at}
+use Rattle.hb_session.specs.Steps.{CarriesOn, CarriesOnIf, IsSameUse, IsToldBy, Leads, Makes, MovesAt, RunsOut, edges_heard}
+use Rattle.hb_session.proofs.Moving.{asks_at, moves_same}
 
 next_pending : {R : Type 0} (p : Pending) (k : Answer → Talk R) → next_in (pending_in p k) ≡ Some p
 next_pending (pending.Asks node q) k = refl
@@ -46,7 +48,7 @@ leads_by : (s : Sitting) (asking : Asking) (a : Answer) (h : Heard) → heard as
 leads_by s asking a h is sts = after_pending asking.pending (rest_of s asking.plan sts) a ∙ ap (by_heard (rest_of s asking.plan sts)) is
 
 pub answered_call : (s new : Sitting) (asking : Asking) (a answer : Answer) (shows : Progress) → heard asking.pending a ≡ heard_as.Answered answer
-    → CarriesOnIf (IsTold asking.plan answer) (λ sts. free (planned s sts (now_hears asking.plan answer))) asking.plan.usage.tx.0 asking.plan.usage.used.0 s new shows
+    → CarriesOnIf (IsTold asking.plan answer) (λ sts. free (planned s sts (now_hears asking.plan answer))) asking.plan.usage s new shows
     → Makes (record s { stage = stage.Asks asking }) new asking.pending a shows
 answered_call s new asking a answer shows is carries = record {
   next = λ sts. next_pending asking.pending (rest_of s asking.plan sts);
@@ -54,6 +56,7 @@ answered_call s new asking a answer shows is carries = record {
     | inl leads ↦ inl (λ sts. leads_by s asking a (heard_as.Answered answer) is sts ∙ leads sts)
     | inr out ↦ inr out
   ];
+  moves = subst (λ h. MovesAt (stage.Asks asking) h new) (sym is) carries.moves;
   edges = carries.edges ∙ ap edges_heard (sym is);
   begun = carries.begun;
 }
@@ -64,6 +67,7 @@ pub waits_call : (s : Sitting) (asking : Asking) (a : Answer) (l : Lock) (edges 
 waits_call s asking a l edges is = record {
   next = λ sts. next_pending asking.pending (rest_of s asking.plan sts);
   goes = λ told. inl (λ sts. leads_by s asking a (heard_as.Waits l edges) is sts);
+  moves = subst (λ h. MovesAt (stage.Asks asking) h (record s { stage = stage.Asks (record { plan = asking.plan; pending = pending.Waits l }) })) (sym is) refl;
   edges = ap edges_heard (sym is);
   begun = refl;
 }
@@ -74,100 +78,52 @@ pub more_call : (s : Sitting) (asking : Asking) (a : Answer) (p : Pending) → h
 more_call s asking a p is = record {
   next = λ sts. next_pending asking.pending (rest_of s asking.plan sts);
   goes = λ told. inl (λ sts. leads_by s asking a (heard_as.More p) is sts);
+  moves = subst (λ h. MovesAt (stage.Asks asking) h (record s { stage = stage.Asks (record { plan = asking.plan; pending = p }) })) (sym is) refl;
   edges = ap edges_heard (sym is);
   begun = refl;
 }
 
 -- ---- what an answer makes of a plan
 
--- a course that is the same is carried on the same
-pub carries_on : (s new : Sitting) (t u : Talk Said) (tx used tx' used' : ℕ) (shows : Progress) → t ≡ u → tx' ≡ tx → used' ≡ used
-    → CarriesOn (λ sts. free (planned s sts u)) tx' used' s new shows → CarriesOn (λ sts. free (planned s sts t)) tx used s new shows
-carries_on s new t u tx used tx' used' shows same e f carries =
-    subst (λ n. CarriesOn (λ sts. free (planned s sts t)) n used s new shows) e
-    (subst (λ n. CarriesOn (λ sts. free (planned s sts t)) tx' n s new shows) f
-    (subst (λ x. CarriesOn (λ sts. free (planned s sts x)) tx' used' s new shows) (sym same) carries))
+-- where a course leads is where the same course leads, counted otherwise
+leads_same : (s new : Sitting) (t t' : Talk Said) (u v : Usage) (shows : Progress) → t ≡ t' → IsSameUse u v
+    → Leads (λ sts. free (planned s sts t')) new shows ⊎ RunsOut v.tx.0 v.used.0 new shows → Leads (λ sts. free (planned s sts t)) new shows ⊎ RunsOut u.tx.0 u.used.0 new shows
+leads_same s new t t' u v shows told alike (inl leads) = inl (λ sts. ap (λ x. free (planned s sts x)) told ∙ leads sts)
+leads_same s new t t' u v shows told alike (inr out) =
+    inr (out.0, out.1 ∙ alike.0, subst (λ k. Each (λ n. has_node k n ≡ true) (nodes_in out.0.used)) alike.1 out.2, out.3, out.4)
 
--- a refusal for want of memory
-pub runs_out : (s new : Sitting) (t : Talk Said) (u : Usage) (tx used : ℕ) (shows : Progress) → u.tx.0 ≡ tx → u.used.0 ≡ used → shows ≡ progress.More
-    → CarriesOn (λ sts. free (planned s sts (says (Err reply.NoMemory, use_of u)))) u.tx.0 u.used.0 s new shows
-    → Leads (λ sts. free (planned s sts (says (Err reply.NoMemory, use_of u)))) new shows
-    → CarriesOn (λ sts. free (planned s sts t)) tx used s new shows
-runs_out s new t u tx used shows e f more carries leads = record {
+-- where something was told, what goes on behind it
+pub carried_if : (T : Type 0) (s new : Sitting) (t t' : Talk Said) (u v : Usage) (shows : Progress) → (T → t ≡ t') → IsSameUse u v
+    → CarriesOn (λ sts. free (planned s sts t')) v s new shows → CarriesOnIf T (λ sts. free (planned s sts t)) u s new shows
+carried_if T s new t t' u v shows same alike carries = record {
   same = carries.same;
   begun = carries.begun;
   leaves = carries.leaves;
   edges = carries.edges;
-  goes = inr (use_of u, e, f, (λ sts. sym (leads sts ∙ ap (λ w. said w (stands new sts)) more)), more);
+  goes = λ told. leads_same s new t t' u v shows (same told) alike carries.goes;
+  moves = moves_same u v new alike carries.moves;
 }
 
--- a refusal, told by the talk or for want of memory
-pub refused : (s new : Sitting) (t : Talk Said) (u : Usage) (tx used : ℕ) (r : Reply) (shows : Progress) → u.tx.0 ≡ tx → u.used.0 ≡ used
-    → ((t ≡ says (Err r, use_of u)) ⊎ (r ≡ reply.NoMemory))
-    → (rolls_back r ≡ true → shows ≡ progress.More)
-    → CarriesOn (λ sts. free (planned s sts (says (Err r, use_of u)))) u.tx.0 u.used.0 s new shows
-    → Leads (λ sts. free (planned s sts (says (Err r, use_of u)))) new shows
-    → CarriesOn (λ sts. free (planned s sts t)) tx used s new shows
-refused s new t u tx used r shows e f (inl told) more carries leads = carries_on s new t (says (Err r, use_of u)) tx used u.tx.0 u.used.0 shows told e f carries
-refused s new t u tx used r shows e f (inr none) more carries leads =
-    let P : Reply → Type 0 = λ x. (rolls_back x ≡ true → shows ≡ progress.More)
-    → CarriesOn (λ sts. free (planned s sts (says (Err x, use_of u)))) u.tx.0 u.used.0 s new shows
-    → Leads (λ sts. free (planned s sts (says (Err x, use_of u)))) new shows
-    → CarriesOn (λ sts. free (planned s sts t)) tx used s new shows in
-    subst P (sym none) (λ m c l. runs_out s new t u tx used shows e f (m refl) c l) more carries leads
-
--- the same, where something was told
-pub carried_if : (T : Type 0) (s new : Sitting) (t u : Talk Said) (tx used tx' used' : ℕ) (shows : Progress) → (T → t ≡ u) → tx' ≡ tx → used' ≡ used
-    → CarriesOn (λ sts. free (planned s sts u)) tx' used' s new shows → CarriesOnIf T (λ sts. free (planned s sts t)) tx used s new shows
-carried_if T s new t u tx used tx' used' shows same e f carries = record {
-  same = carries.same;
-  begun = carries.begun;
-  leaves = carries.leaves;
-  edges = carries.edges;
-  goes = λ told. (carries_on s new t u tx used tx' used' shows (same told) e f carries).goes;
-}
-
-pub refused_if : (T : Type 0) (s new : Sitting) (t : Talk Said) (u : Usage) (tx used : ℕ) (r : Reply) (shows : Progress) → u.tx.0 ≡ tx → u.used.0 ≡ used
-    → (T → (t ≡ says (Err r, use_of u)) ⊎ (r ≡ reply.NoMemory))
-    → (rolls_back r ≡ true → shows ≡ progress.More)
-    → CarriesOn (λ sts. free (planned s sts (says (Err r, use_of u)))) u.tx.0 u.used.0 s new shows
-    → Leads (λ sts. free (planned s sts (says (Err r, use_of u)))) new shows
-    → CarriesOnIf T (λ sts. free (planned s sts t)) tx used s new shows
-refused_if T s new t u tx used r shows e f told more carries leads = record {
-  same = carries.same;
-  begun = carries.begun;
-  leaves = carries.leaves;
-  edges = carries.edges;
-  goes = λ x. (refused s new t u tx used r shows e f (told x) more carries leads).goes;
-}
-
-pub replied_if : (T : Type 0) (s : Sitting) (t : Talk Said) (u : Usage) (r : Reply) (tx used : ℕ) → (T → t ≡ says (Ok r, use_of u))
-    → CarriesOnIf T (λ sts. free (planned s sts t)) tx used s (record s { stage = stage.Open u }) (progress.Shown r)
-replied_if T s t u r tx used told = record {
+pub replied_if : (T : Type 0) (s : Sitting) (t : Talk Said) (u v : Usage) (r : Reply) → (T → t ≡ says (Ok r, use_of v)) → IsSameUse u v
+    → CarriesOnIf T (λ sts. free (planned s sts t)) u s (record s { stage = stage.Open v }) (progress.Shown r)
+replied_if T s t u v r told alike = record {
   same = record { index = refl; back_ends = refl };
   begun = refl;
   leaves = (refl, refl);
   edges = refl;
   goes = λ x. inl (λ sts. ap (λ y. free (planned s sts y)) (told x));
+  moves = inl alike;
 }
 
-pub asks_next : (s : Sitting) (plan next : Planned) (node : NodeName) (q : Request) (tx used : ℕ) → now_talks plan ≡ asks node.0 q (now_hears next)
-    → CarriesOn (λ sts. free (planned s sts (now_talks plan))) tx used s
-    (record s { stage = stage.Asks (record { plan = next; pending = pending.Asks node q }) }) progress.More
-asks_next s plan next node q tx used told = record {
+pub asks_next : (s : Sitting) (plan held : Planned) (node : NodeName) (q : Request) → now_talks plan ≡ asks node.0 q (now_hears held)
+    → at_branch plan.usage (next.Ask node q) ≡ true → held.usage.tx.0 ≡ plan.usage.tx.0 → held.usage.used.0 ≡ used_after plan.usage.used.0 (next.Ask node q)
+    → CarriesOn (λ sts. free (planned s sts (now_talks plan))) plan.usage s
+    (record s { stage = stage.Asks (record { plan = held; pending = pending.Asks node q }) }) progress.More
+asks_next s plan held node q told branch tx used = record {
   same = record { index = refl; back_ends = refl };
   begun = refl;
   leaves = refl;
   edges = refl;
   goes = inl (λ sts. ap (λ x. free (planned s sts x)) told);
+  moves = inl (asks_at plan.usage held node q branch tx used);
 }
-
--- ---- a refusal
-
-pub refusal_rolls : (s new : Sitting) (u : Use) (r : Reply) → rolls_back r ≡ true → RollsBack u r new
-    → Leads (λ sts. free (planned s sts (says (Err r, u)))) new progress.More
-refusal_rolls s new u r is rolled = λ sts. rw is (sym (rolled sts))
-
-pub refusal_open : (s : Sitting) (u : Usage) (r : Reply) → rolls_back r ≡ false
-    → Leads (λ sts. free (planned s sts (says (Err r, use_of u)))) (record s { stage = stage.Open u }) (progress.Shown r)
-refusal_open s u r is = λ sts. rw is refl

@@ -11,7 +11,7 @@ ghost use Rattle.hb_commit.specs.Driving.{AreBranches};
 ghost use Rattle.hb_plan.specs.Planned.{is_asking, now_talks};
 ghost use Rattle.hb_wait.specs.Courses.{free};
 ghost use Rattle.hb_session.specs.Sitting.{IsGiven, IsUsed, owner, planned};
-ghost use Rattle.hb_session.specs.Steps.{SameSession, Steps, LeavesAs, CarriesOn, Gives, GivesTalk, is_busy_fault, is_no_memory};
+ghost use Rattle.hb_session.specs.Steps.{SameSession, Steps, LeavesAs, CarriesOn, Gives, GivesTalk, is_busy_fault, is_no_memory, nothing_used};
 ghost use Rattle.hb_session.specs.declared.stage.Stage.TheVariants as stage;
 
 use crate::ending::{FES1, MGR, rolls_back, wants_memory};
@@ -27,7 +27,7 @@ use hb_wait::Pending;
 
 /// A transaction that has used no node.
 fn unused(tx: Tx) -> Usage
-    ensures { result ≡ record { tx = tx; used = record { 0 = 0 }; locks = 0; bytes = 0 } }
+    ensures { result ≡ nothing_used tx }
 {
     Usage {
         tx,
@@ -85,7 +85,7 @@ impl Session {
         requires stage { self.old.stage ≡ stage.Idle }
         requires tx { IsNumber tx.0 }
         requires given { IsGiven statement }
-        ensures { CarriesOn (λ sts. free (going self.old.back_ends (owner self.old) (statement ∷ sts) (fresh tx.0))) tx.0 0 self.old self.new result }
+        ensures { CarriesOn (λ sts. free (going self.old.back_ends (owner self.old) (statement ∷ sts) (fresh tx.0))) (nothing_used tx) self.old self.new result }
     {
         match Plan::begin(self.alloc, unused(tx), self.back_ends, statement) {
             Ok(plan) => self.go_on(plan),
@@ -134,7 +134,7 @@ impl Session {
         requires used { IsUsed plan.usage }
         ensures busy { is_busy_fault result ≡ false }
         ensures kept { IfErr result (λ e. self.new ≡ self.old) }
-        ensures given { IfOk result (λ x. GivesTalk (λ sts. planned self.old sts (now_talks plan)) self.old self.new) }
+        ensures given { IfOk result (λ x. GivesTalk (λ sts. planned self.old sts (now_talks plan)) plan.usage self.old self.new) }
     {
         match plan.next() {
             Next::Ask(node, request) => {
@@ -151,7 +151,7 @@ impl Session {
         requires used { AreBranches usage.used.0 }
         ensures busy { is_busy_fault result ≡ false }
         ensures kept { IfErr result (λ e. self.new ≡ self.old) }
-        ensures given { IfOk result (λ x. (is_no_memory why ≡ false) × GivesTalk (λ sts. planned self.old sts (says (Err why, use_of usage))) self.old self.new) }
+        ensures given { IfOk result (λ x. (is_no_memory why ≡ false) × GivesTalk (λ sts. planned self.old sts (says (Err why, use_of usage))) usage self.old self.new) }
     {
         if wants_memory(&why) {
             return Err(GiveFault::NoMemory);
@@ -163,7 +163,7 @@ impl Session {
     fn refuse_first(&mut self, usage: Usage, why: Reply)
         requires tx { IsNumber usage.tx.0 }
         requires used { AreBranches usage.used.0 }
-        ensures { GivesTalk (λ sts. planned self.old sts (says (Err why, use_of usage))) self.old self.new }
+        ensures { GivesTalk (λ sts. planned self.old sts (says (Err why, use_of usage))) usage self.old self.new }
     {
         if rolls_back(&why) {
             self.roll_back(usage, why);

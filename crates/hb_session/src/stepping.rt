@@ -10,8 +10,8 @@ ghost use Rattle.hb_commit.specs.Driving.{AreBranches};
 ghost use Rattle.hb_plan.specs.Planned.{IsTold, is_asking, now_talks, now_hears};
 ghost use Rattle.hb_wait.specs.Courses.{free};
 ghost use Rattle.hb_wait.specs.Waiting.{IsPending};
-ghost use Rattle.hb_session.specs.Sitting.{IsAsking, IsUsed, planned, Starts};
-ghost use Rattle.hb_session.specs.Steps.{SameSession, Steps, LeavesAs, CarriesOn, CarriesOnIf, Leads};
+ghost use Rattle.hb_session.specs.Sitting.{is_ending, IsAsking, IsUsed, planned, Starts};
+ghost use Rattle.hb_session.specs.Steps.{SameSession, Steps, LeavesAs, CarriesOn, CarriesOnIf, Leads, RollsBack};
 ghost use Rattle.hb_session.specs.declared.stage.Stage.TheVariants as stage;
 ghost use Rattle.hb_session.specs.declared.session.Progress.TheVariants as progress;
 
@@ -59,7 +59,7 @@ impl Session {
     fn take(&mut self, mut plan: Plan, answer: Answer) -> Progress
         requires asking { IsAsking plan }
         requires answer { IsAnswer answer }
-        ensures { CarriesOnIf (IsTold plan answer) (λ sts. free (planned self.old sts (now_hears plan answer))) plan.usage.tx.0 plan.usage.used.0 self.old self.new result }
+        ensures { CarriesOnIf (IsTold plan answer) (λ sts. free (planned self.old sts (now_hears plan answer))) plan.usage self.old self.new result }
     {
         match plan.take(answer) {
             Taken::More => self.go_on(plan),
@@ -75,7 +75,7 @@ impl Session {
         requires asking { is_asking plan ≡ true }
         requires tx { IsNumber plan.usage.tx.0 }
         requires starts { AreBranches plan.usage.used.0 ⊎ Starts plan }
-        ensures { CarriesOn (λ sts. free (planned self.old sts (now_talks plan))) plan.usage.tx.0 plan.usage.used.0 self.old self.new result }
+        ensures { CarriesOn (λ sts. free (planned self.old sts (now_talks plan))) plan.usage self.old self.new result }
     {
         match plan.next() {
             Next::Ask(node, request) => {
@@ -90,9 +90,11 @@ impl Session {
     fn refuse(&mut self, usage: Usage, reply: Reply) -> Progress
         requires tx { IsNumber usage.tx.0 }
         requires used { is_rolled_back reply ≡ false → AreBranches usage.used.0 }
-        ensures carries { CarriesOn (λ sts. free (planned self.old sts (says (Err reply, use_of usage)))) usage.tx.0 usage.used.0 self.old self.new result }
+        ensures carries { CarriesOn (λ sts. free (planned self.old sts (says (Err reply, use_of usage)))) usage self.old self.new result }
         ensures more { is_rolled_back reply ≡ true → result ≡ progress.More }
         ensures leads { Leads (λ sts. free (planned self.old sts (says (Err reply, use_of usage)))) self.new result }
+        ensures rolled { is_rolled_back reply ≡ true → RollsBack (use_of usage) reply self.new }
+        ensures ending { is_rolled_back reply ≡ true → is_ending self.new.stage ≡ true }
     {
         if rolls_back(&reply) {
             self.roll_back(usage, reply);

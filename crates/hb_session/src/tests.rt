@@ -178,6 +178,18 @@ fn a_transaction_that_begins_is_counted(rt: HostRuntime) -> Result<(), Fail> {
 }
 
 #[test]
+fn a_refused_enlist_adds_no_rollback(rt: HostRuntime) -> Result<(), Fail> {
+    let mut nodes = Stated {
+        answers: [Says::Begun, Says::Done, Says::Down, Says::Done],
+        made: Vec::new(rt.alloc()),
+    };
+    let mut session = Session::new(rt.alloc(), 3, 2);
+    session.give(lock_table(rt.alloc())?)?;
+    assert_eq!(rt; run(&mut session, &mut nodes), (301, 0x0a10a, false));
+    Ok(())
+}
+
+#[test]
 fn commits_at_one_node(rt: HostRuntime) -> Result<(), Fail> {
     let mut nodes = Stated {
         answers: [Says::Vote, Says::Decided, Says::Done, Says::Done],

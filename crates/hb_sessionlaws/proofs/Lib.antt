@@ -1,7 +1,7 @@
 pub mod SessionCalls
-pub mod Courses
-pub mod Unwanted
+pub mod Using
 pub mod Undone
+pub mod Ending
 pub mod Going
-pub mod Starting
+pub mod Calling
 pub mod Lives

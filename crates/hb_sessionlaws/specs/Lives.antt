@@ -6,12 +6,12 @@ use Rattle.hb_types.specs.Lists.{Each}
 use Rattle.hb_node.specs.Lists.{Lists, OneMore}
 use Rattle.hb_model.specs.declared.statement.Statement.{Statement}
 use Rattle.hb_law.specs.Callers.{ObeysFrom, begun_count}
-use Rattle.hb_wait.specs.Waiting.{heard, node_asked, request_asked}
+use Rattle.hb_wait.specs.Waiting.{node_asked, request_asked}
 use Rattle.hb_wait.specs.declared.pending.Pending.{Pending}
 use Rattle.hb_session.specs.declared.session.Progress.{Progress}
 use Rattle.hb_session.specs.Runs.{call_of}
-use Rattle.hb_session.specs.Sitting.{Sitting, IsWithin, in_transaction, is_busy, is_refused, is_waiting, stands}
-use Rattle.hb_session.specs.Steps.{Abandons, Closes, Gives, IsToldBy, Leads, LeavesAs, Makes, SameSession, Stepped}
+use Rattle.hb_session.specs.Sitting.{Sitting, IsWithin, in_transaction, is_busy, is_ending, is_refused, is_waiting, stands}
+use Rattle.hb_session.specs.Steps.{Abandons, Closes, Gives, Leads, LeavesAs, Makes, OpensAt, SameSession, Stepped}
 use Rattle.hb_obeys.specs.Obeying.{IsOfSystem}
 
 -- what a session keeps, with room in its count of transactions
@@ -19,12 +19,11 @@ pub record IsKept (s : Sitting) : Type 0 where
   pub within : IsWithin s.stage
   pub room : s.begun + 1 < 2 ^ 64
 
--- One request was asked, and rows that a plan awaits were of their shapes; the session may have found no memory.
+-- One request was asked, and answered in any way; the session may have found no memory.
 pub record Asked (old new : Sitting) (p : Pending) (a : Answer) (shows : Progress) : Type 0 where
   pub same : SameSession old new
   pub leaves : LeavesAs shows new.stage
   pub makes : Makes old new p a shows
-  pub told : IsToldBy old.stage (heard p a)
 
 -- a refusal that stood was shown
 pub record Showed (old new : Sitting) (shows : Progress) : Type 0 where
@@ -33,18 +32,21 @@ pub record Showed (old new : Sitting) (shows : Progress) : Type 0 where
   pub leaves : LeavesAs shows new.stage
   pub begun : new.begun ≡ old.begun
   pub leads : Leads (stands old) new shows
+  pub opens : OpensAt old.stage new.stage
 
 -- a statement that waited was given up
 pub record Abandoned (old new : Sitting) : Type 0 where
   pub waiting : is_waiting old.stage ≡ true
   pub same : SameSession old new
   pub begun : new.begun ≡ old.begun
+  pub ending : is_ending new.stage ≡ true
   pub abandons : Abandons old.stage new
 
 -- a transaction between two statements was given up
 pub record Closed (old new : Sitting) : Type 0 where
   pub same : SameSession old new
   pub begun : new.begun ≡ old.begun
+  pub ending : is_ending new.stage ≡ true
   pub closes : Closes old.stage new
 
 -- from one sitting to another, through any number of transactions: the calls
@@ -68,8 +70,6 @@ StepSits old new before after =
     (is_refused old.stage ≡ true → Sits old [] new)
     × (is_refused old.stage ≡ false → (p : Pending) × (a : Answer) × OneMore before after (node_asked p) (request_asked p) a × Sits old (call_of p a ∷ []) new)
 
--- So it is with each step, where rows that a plan awaits are of their shapes.
+-- So it is with each step, whatever is answered.
 abbrev pub StepsSit : Type 0
-StepsSit =
-    (old new : Sitting) (before after : Lists) (shows : Progress) → Stepped old new before after shows → IsKept new
-    → ((p : Pending) (a : Answer) → Makes old new p a shows → IsToldBy old.stage (heard p a)) → StepSits old new before after
+StepsSit = (old new : Sitting) (before after : Lists) (shows : Progress) → Stepped old new before after shows → IsKept new → StepSits old new before after

@@ -40,7 +40,7 @@ returns-in_default-clause-steps g c =
       c.ask.ensures.one_more,
       subst (λ (x : Sitting). Makes (record s { stage = stage.Begins c.args.given }) s
           (pending.Asks (record { 0 = 0 }) (request.Begin (record { session = x.index; nth = n }))) a (progress.Ended r)) (sym c.self.view_is)
-          (not_begun_call s c.args.given n a r next c.in_default.not-Begun c.refusal.ensures),
+          (not_begun_call s c.args.given n a r c.requires.stage next c.in_default.not-Begun c.refusal.ensures),
     )
 
 pub returns-in-Begun-clause-goes : goal.returns-in-Begun-clause-goes

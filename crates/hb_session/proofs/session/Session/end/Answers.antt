@@ -53,7 +53,7 @@ returns-in-Ended-clause-steps g c =
       a,
       c.tell_end.ensures.told.1,
       c.tell_end.ensures.told.2,
-      subst (λ x. Makes (record s { stage = stage.Ends x }) s p a (progress.Ended said)) same (end_told s e left said a tx talk),
+      subst (λ x. Makes (record s { stage = stage.Ends x }) s p a (progress.Ended said)) same (end_told s e left said a c.requires.stage tx talk),
     )
 
 pub returns-in-Ask-clause-goes : goal.returns-in-Ask-clause-goes

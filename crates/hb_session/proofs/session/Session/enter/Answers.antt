@@ -1,4 +1,4 @@
-use Rattle.std.proofs.Common.{◌≡◌, ap, sym, ◌∙◌, subst}
+use Rattle.std.proofs.Common.{sym, subst}
 use Rattle.hb_node.specs.Lists.{here, onward}
 use Rattle.hb_types.specs.declared.answer.Answer.TheVariants as answer
 use Rattle.hb_types.specs.declared.request.Request.TheVariants as request
@@ -37,7 +37,7 @@ returns-in_default-clause-steps g c =
       c.ask.ensures.one_more,
       subst (λ (x : Sitting). Makes (record s { stage = stage.Enters tx c.args.given }) c.roll_back.new.self
           (pending.Asks (record { 0 = 10 }) (request.Enter tx (owner x))) a progress.More) (sym c.self.view_is)
-          (not_entered_call s c.roll_back.new.self c.args.given tx a r c.in_default.not-Done c.refusal.ensures c.roll_back.ensures.begun rolled),
+          (not_entered_call s c.roll_back.new.self c.args.given tx a r c.in_default.not-Done c.refusal.ensures c.roll_back.ensures.begun rolled c.roll_back.ensures.ending),
     )
 
 pub returns-in-Done-clause-goes : goal.returns-in-Done-clause-goes

@@ -14,4 +14,4 @@ pub returns-in-Rollback-clause-given : goal.returns-in-Rollback-clause-given
 returns-in-Rollback-clause-given c =
     let e = c.roll_back.ensures in
     subst (λ st. Gives c.args.self.now c.roll_back.new.self st) (sym c.in-Rollback.is)
-    (rollback_given c.args.self.now c.roll_back.new.self c.args.usage c.requires.stage e.same e.begun e.busy e.rolls)
+    (rollback_given c.args.self.now c.roll_back.new.self c.args.usage c.requires.stage e.same e.begun e.busy e.ending e.rolls)

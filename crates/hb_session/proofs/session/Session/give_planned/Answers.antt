@@ -12,4 +12,4 @@ returns-in-Ok-clause-given c =
     let st = c.args.statement in
     let u = c.args.usage in
     let talk : now_talks c.in-Ok.plan ≡ plan s.back_ends st (use_of u) = c.in-Ok.ensures.talk ∙ ap (λ (x : Sitting). plan x.back_ends st (use_of u)) c.self.view_is in
-    if_ok c.give_plan.result _ _ (λ x h. statement_given s c.give_plan.new.self st u c.in-Ok.plan c.requires.given.0 c.requires.stage talk h) c.give_plan.ensures.given
+    if_ok c.give_plan.result _ _ (λ x h. statement_given s c.give_plan.new.self st u c.in-Ok.plan c.requires.given.0 c.requires.stage c.in-Ok.ensures.usage talk h) c.give_plan.ensures.given

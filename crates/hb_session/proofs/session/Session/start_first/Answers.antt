@@ -30,4 +30,4 @@ pub returns-in-Err : goal.returns-in-Err
 returns-in-Err c =
     let new = c.roll_back.new.self in
     let rolled = subst (λ u. RollsBack (use_of u) reply.NoMemory new) c.unused-in-Err.ensures c.roll_back.ensures.rolls in
-    first_out c.args.self.now new _ c.args.tx c.roll_back.ensures.same c.roll_back.ensures.begun c.roll_back.ensures.busy rolled
+    first_out c.args.self.now new _ c.args.tx c.roll_back.ensures.same c.roll_back.ensures.begun c.roll_back.ensures.busy rolled c.roll_back.ensures.ending
