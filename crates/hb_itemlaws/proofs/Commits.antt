@@ -1,4 +1,4 @@
--- What a COMMIT asks reads and writes no row, and its reply tells what was decided.
+-- What a COMMIT asks reads and writes no row nor locks, and its reply tells what was decided.
 use Rattle.std.proofs.Common.{◌≡◌, inl, inr, ℕ, List, [], ◌∷◌, ◌++◌, Some, Bool, true, false, refl, subst, sym, ap, ◌∙◌}
 use Rattle.std.specs.Prelude.{IsTrue, if◌then◌else◌}
 use Rattle.std.proofs.lemmas.Bool.{false≢true}
@@ -12,14 +12,14 @@ use Rattle.hb_types.specs.declared.request.Vote.{Vote}
 use Rattle.hb_types.specs.declared.trail.Call.{Call}
 use Rattle.hb_model.specs.declared.reply.Reply.{Reply}
 use Rattle.hb_model.specs.declared.reply.Reply.TheVariants as reply
-use Rattle.hb_model.specs.Answers.{call, is_decide, is_of_rows, of_rows}
+use Rattle.hb_model.specs.Answers.{call, is_decide, is_grant, is_of_rows, of_rows}
 use Rattle.hb_model.specs.NodeSets.{nodes_in, with_node}
 use Rattle.hb_talk.specs.Ends.{commits, committing, decided, end_refusal, ending, fes1, is_done, rolling_back, voted, voting}
 use Rattle.hb_talk.specs.Talk.{Follows, ends, asked, Use, the_tx}
 use Rattle.hb_law.specs.Callers.{Asks, MayBeDecided, is_settled}
-use Rattle.hb_law.specs.Transactions.{CommitTells}
+use Rattle.hb_law.specs.Transactions.{CommitTells, IsBare}
 use Rattle.hb_faithful.specs.Planned.{AreBeside, is_beside}
-use Rattle.hb_faithful.proofs.Beside.{undecided}
+use Rattle.hb_faithful.proofs.Beside.{grants_beside, undecided}
 use Rattle.hb_faithful.proofs.Rolling.{rolling_closes}
 
 -- ---- calls beside
@@ -33,9 +33,12 @@ no_row q = elim q as (λ x. IsTrue (is_beside x) → is_of_rows x ≡ false) [
   | x ↦ λ b. refl
 ]
 
-pub no_rows : (calls : List Call) → AreBeside calls → of_rows calls ≡ []
+no_rows : (calls : List Call) → AreBeside calls → of_rows calls ≡ []
 no_rows [] b = refl
 no_rows (c ∷ cs) b = rw (no_row c.request b.0) (no_rows cs b.1)
+
+pub bare_beside : (calls : List Call) → AreBeside calls → IsBare calls
+bare_beside calls b = (no_rows calls b, grants_beside calls b)
 
 -- calls that decide nothing
 pub off : (calls : List Call) → AreBeside calls → ¬ (MayBeDecided calls)
@@ -83,9 +86,9 @@ tells_more (c ∷ front) calls r b h = one (tells_more front calls r b.1 h)
 
 -- ---- the talk
 
--- it reads and writes no row, and tells what was decided
+-- it reads and writes no row nor locks, and tells what was decided
 pub record Tells (calls : List Call) (r : Reply) : Type 0 where
-  pub rowless : of_rows calls ≡ []
+  pub bare : IsBare calls
   pub told : CommitTells calls (Some r)
 
 ending_beside : (u : Use) (left : ℕ) (r said : Reply) (calls : List Call) → Follows false (ending u left r) calls said → (said ≡ r) × AreBeside calls
@@ -97,11 +100,11 @@ commits_beside u number (n ∷ ns) left r said _ (asked {cs = cs} a i f) =
     let more = commits_beside u number ns (if is_done a then left else with_node left n) r said cs f in (more.0, (refl, more.1))
 
 -- what is refused is rolled back
-refused_tells : (u : Use) (prepared node : ℕ) (c : Call) (a : Answer) (said : Reply) (calls : List Call) → is_of_rows c.request ≡ false → (Asks is_decide c × IsTrue (is_settled c.answer) → ⊥)
+refused_tells : (u : Use) (prepared node : ℕ) (c : Call) (a : Answer) (said : Reply) (calls : List Call) → is_of_rows c.request ≡ false → is_grant c.request c.answer ≡ false → (Asks is_decide c × IsTrue (is_settled c.answer) → ⊥)
     → Follows false (rolling_back u prepared (end_refusal node a)) calls said → Tells (c ∷ calls) said
-refused_tells u prepared node c a said calls plain none f =
+refused_tells u prepared node c a said calls plain free none f =
     let k = rolling_closes u prepared (end_refusal node a) said calls f in record {
-      rowless = rw plain (no_rows calls k.1.beside);
+      bare = (rw plain (no_rows calls k.1.beside), rw free (grants_beside calls k.1.beside));
       told = tells_off (c ∷ calls) said (ap tells_decision k.0 ∙ end_bare node a) (λ h. elim h [ inl x ↦ none x | inr x ↦ off calls k.1.beside x ]);
     }
 
@@ -109,12 +112,12 @@ decided_tells : (owner : Owner) (u : Use) (votes : List Vote) (a : Answer) (said
     → Tells (call fes1 (request.Decide (the_tx u) votes) a ∷ calls) said
 decided_tells owner u votes (answer.Decided number) said calls f =
     let k = commits_beside u number (nodes_in u.used) 0 (reply.Committed number) said calls f in
-    record { rowless = no_rows calls k.1; told = subst (λ x. CommitTells (call fes1 (request.Decide (the_tx u) votes) (answer.Decided number) ∷ calls) (Some x)) (sym k.0) (inl (refl, refl)) }
+    record { bare = bare_beside calls k.1; told = subst (λ x. CommitTells (call fes1 (request.Decide (the_tx u) votes) (answer.Decided number) ∷ calls) (Some x)) (sym k.0) (inl (refl, refl)) }
 decided_tells owner u votes (answer.Fault area) said calls f =
     let k = ending_beside u u.used (reply.OutcomeUnknown owner) said calls f in
-    record { rowless = no_rows calls k.1; told = subst (λ x. CommitTells (call fes1 (request.Decide (the_tx u) votes) (answer.Fault area) ∷ calls) (Some x)) (sym k.0) (inl (refl, refl)) }
+    record { bare = bare_beside calls k.1; told = subst (λ x. CommitTells (call fes1 (request.Decide (the_tx u) votes) (answer.Fault area) ∷ calls) (Some x)) (sym k.0) (inl (refl, refl)) }
 decided_tells owner u votes a said calls f =
-    refused_tells u u.used fes1 (call fes1 (request.Decide (the_tx u) votes) a) a said calls refl (λ k. false≢true k.1) f
+    refused_tells u u.used fes1 (call fes1 (request.Decide (the_tx u) votes) a) a said calls refl refl (λ k. false≢true k.1) f
 
 voting_tells : (owner : Owner) (u : Use) (prepared : ℕ) (nodes : List ℕ) (votes : List Vote) (said : Reply) (calls : List Call)
     → Follows false (voting owner u reply.Committed prepared nodes votes) calls said → Tells calls said
@@ -126,8 +129,8 @@ voting_tells owner u prepared (n ∷ ns) votes said _ (asked {cs = cs} a i f) = 
         → Tells (call n (request.Prepare (the_tx u)) a ∷ cs) said
     by (answer.Vote floor) rest g =
         let k = rest (votes ++ record { node = record { 0 = n }; floor = floor } ∷ []) g in
-        record { rowless = k.rowless; told = tells_more (call n (request.Prepare (the_tx u)) (answer.Vote floor) ∷ []) cs said (refl, tt) k.told }
-    by a rest g = refused_tells u (with_node prepared n) n (call n (request.Prepare (the_tx u)) a) a said cs refl (λ k. false≢true k.0) g
+        record { bare = k.bare; told = tells_more (call n (request.Prepare (the_tx u)) (answer.Vote floor) ∷ []) cs said (refl, tt) k.told }
+    by a rest g = refused_tells u (with_node prepared n) n (call n (request.Prepare (the_tx u)) a) a said cs refl refl (λ k. false≢true k.0) g
 
 pub committing_tells : (owner : Owner) (u : Use) (said : Reply) (calls : List Call) → Follows false (committing owner u reply.Committed) calls said → Tells calls said
 committing_tells owner u said calls f = voting_tells owner u 0 (nodes_in u.used) [] said calls f

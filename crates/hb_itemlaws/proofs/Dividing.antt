@@ -1,5 +1,5 @@
 -- A transaction's calls are those of right items, from its Begin on.
-use Rattle.std.proofs.Common.{◌≡◌, inr, ℕ, ◌≤◌, List, [], ◌∷◌, ◌++◌, Err, Some, false, refl, subst, sym, ap, ◌∙◌, arith}
+use Rattle.std.proofs.Common.{◌≡◌, inr, ℕ, ◌≤◌, List, [], ◌∷◌, ◌++◌, Option, Err, Some, false, refl, subst, sym, ap, ◌∙◌, arith}
 use Rattle.std.specs.Prelude.{IsTrue}
 use Rattle.std.proofs.lemmas.List.{append-nil}
 use Rattle.hb_types.specs.declared.answer.Answer.{Answer}
@@ -19,7 +19,7 @@ use Rattle.hb_model.specs.Items.{nothing_spent}
 use Rattle.hb_talk.specs.Ends.{fes1, rolling_back}
 use Rattle.hb_talk.specs.Moves.{fresh}
 use Rattle.hb_talk.specs.PlansDefine.{plan}
-use Rattle.hb_talk.specs.Sessions.{begun_with, transaction}
+use Rattle.hb_talk.specs.Sessions.{begun_with, going, transaction}
 use Rattle.hb_talk.specs.Talk.{Talk, says, asks, Begins, Follows, ends, asked, going_on, Use, mgr, refusal_of}
 use Rattle.hb_plancalc.specs.Counted.{IsWithin}
 use Rattle.hb_plancalc.proofs.Steps.{rejects}
@@ -29,12 +29,15 @@ use Rattle.hb_faithful.proofs.Faithfuls.{given_up_faithful}
 use Rattle.hb_faithful.proofs.Rolling.{rolling_closes}
 use Rattle.hb_law.specs.Transactions.{IsRightStatement, begins_of}
 use Rattle.hb_itemlaws.specs.Dividing.{Divided, Given, TransactionsAreRight, statements}
-use Rattle.hb_itemlaws.proofs.Commits.{no_rows, off, tells_decision, tells_off}
+use Rattle.hb_itemlaws.proofs.Commits.{bare_beside, off, tells_decision, tells_off}
+use Rattle.hb_itemlaws.specs.Owning.{NoBegin}
+use Rattle.hb_itemlaws.proofs.Ends.{undone_ends}
 use Rattle.hb_itemlaws.proofs.Goings.{Items, all_right, only}
+use Rattle.hb_itemlaws.proofs.Owned.{end_unbegun, going_unbegun, unbegun_followed}
 use Rattle.hb_itemlaws.proofs.Splits.{goes_on, over, split}
 
 -- a talk comes to an end, if every node is down
-ends_somehow : {A : Type 0} (t : Talk A) → Begins t []
+pub ends_somehow : {A : Type 0} (t : Talk A) → Begins t []
 ends_somehow (says r) = ([], r, ends)
 ends_somehow (asks node q k) = let more = ends_somehow (k answer.Down) in (call node q answer.Down ∷ more.0, more.1, asked answer.Down refl more.2)
 
@@ -46,7 +49,7 @@ bare node answer.NumbersSpent = refl
 bare node answer.NoMemory = refl
 bare node _ = refl
 
-fresh_within : (tx : ℕ) → IsWithin (fresh tx)
+pub fresh_within : (tx : ℕ) → IsWithin (fresh tx)
 fresh_within tx = record { locks = omega arith; bytes = omega arith }
 
 -- a transaction that could not be entered
@@ -54,7 +57,7 @@ unentered : (back_ends : ℕ) (st : Statement) (u : Use) (front back : List Call
     → IsRightStatement back_ends nothing_spent st (front ++ back) (Some (refusal_of mgr a))
 unentered back_ends statement.Commit u front back a opens closes within answers =
     let whole : AreBeside (front ++ back) = both front opens.beside in
-    (no_rows (front ++ back) whole, tells_off (front ++ back) (refusal_of mgr a) (bare mgr a) (off (front ++ back) whole))
+    (bare_beside (front ++ back) whole, tells_off (front ++ back) (refusal_of mgr a) (bare mgr a) (off (front ++ back) whole))
   where
     both : (xs : List Call) → AreBeside xs → AreBeside (xs ++ back)
     both [] b = closes.beside
@@ -65,18 +68,18 @@ unentered back_ends st u front back a opens closes within answers = (
       (record { front = front; asked = []; back = back; parts = refl; begins = ends_somehow (plan back_ends st u); opens = opens; closes = closes }) (rejects mgr a) answers,
 )
 
-module _ (back_ends : ℕ) (owner : Owner) (w : Given) (ws : List Given) (few : back_ends ≤ most_back_ends) where
-  divided : (calls : List Call) (replies : List Reply) → Items back_ends (w ∷ ws) nothing_spent calls replies → Divided back_ends (w ∷ ws) calls replies
-  divided calls replies i = record {
-    items = i.items;
-    made_of = i.made_of;
-    each = i.each;
-    right = i.right;
-  }
+-- a transaction that was begun: its calls, from its Begin on, and its items
+pub record BegunItems (back_ends : ℕ) (owner : Owner) (works : List Given) (calls : List Call) (replies : List Reply) : Type 0 where
+  pub tx : Tx
+  pub more : List Call
+  pub whole : calls ≡ call fes1 (request.Begin owner) (answer.Begun tx) ∷ more
+  pub no_begin : NoBegin more
+  pub items : Items back_ends (Some tx.0) works nothing_spent calls replies
 
+module _ (back_ends : ℕ) (owner : Owner) (w : Given) (ws : List Given) (few : back_ends ≤ most_back_ends) where
   -- what is asked and said of a transaction
-  abbrev whole : Talk (List Reply)
-  whole = transaction back_ends owner (statements (w ∷ ws))
+  abbrev pub whole_talk : Talk (List Reply)
+  whole_talk = transaction back_ends owner (statements (w ∷ ws))
 
   abbrev begin : Tx → Call
   begin tx = call fes1 (request.Begin owner) (answer.Begun tx)
@@ -89,7 +92,7 @@ module _ (back_ends : ℕ) (owner : Owner) (w : Given) (ws : List Given) (few : 
 
   refused : (tx : Tx) (b : Answer) (cs : List Call) (replies : List Reply)
       → Follows false (going_on (λ r. begun_with back_ends owner (statements (w ∷ ws)) (Err r)) (rolling_back (fresh tx.0) 0 (refusal_of mgr b))) cs replies → AreAnswers (begin tx ∷ enter tx b ∷ cs)
-      → Divided back_ends (w ∷ ws) (begin tx ∷ enter tx b ∷ cs) replies
+      → BegunItems back_ends owner (w ∷ ws) (begin tx ∷ enter tx b ∷ cs) replies
   refused tx b cs replies f answers =
       let r : Reply = refusal_of mgr b in
       let s = split (λ z. says (z ∷ [])) (rolling_back (fresh tx.0) 0 r) cs replies f in
@@ -97,23 +100,43 @@ module _ (back_ends : ℕ) (owner : Owner) (w : Given) (ws : List Given) (few : 
       let rolls = rolling_closes (fresh tx.0) 0 r s.value s.front s.first in
       let same : s.front ≡ cs = sym (append-nil s.front) ∙ ap (λ zs. s.front ++ zs) (sym done.0) ∙ sym s.parts in
       let closes : Closes cs r = subst (λ zs. Closes zs r) same rolls.1 in
-      divided (begin tx ∷ enter tx b ∷ cs) replies
-      (subst (Items back_ends (w ∷ ws) nothing_spent (begin tx ∷ enter tx b ∷ cs)) (ap (λ z. z ∷ []) (sym rolls.0) ∙ sym done.1)
-      (only back_ends owner few w ws nothing_spent (begin tx ∷ enter tx b ∷ cs) r
-      (unentered back_ends w.1 (fresh tx.0) (begin tx ∷ []) (enter tx b ∷ cs) b (begin_opens tx) (record { beside = (refl, closes.beside); undone = λ h. inr (closes.undone h) }) (fresh_within tx.0) answers)))
+      let t : Talk (List Reply) = going_on (λ z. says (z ∷ [])) (rolling_back (fresh tx.0) 0 r) in
+      record {
+        tx = tx;
+        more = enter tx b ∷ cs;
+        whole = refl;
+        no_begin = (refl, unbegun_followed false t cs replies f (end_unbegun t (undone_ends (fresh tx.0) r)));
+        items = subst (Items back_ends (Some tx.0) (w ∷ ws) nothing_spent (begin tx ∷ enter tx b ∷ cs)) (ap (λ z. z ∷ []) (sym rolls.0) ∙ sym done.1)
+            (only back_ends (Some tx.0) w ws nothing_spent (begin tx ∷ enter tx b ∷ cs) r
+            (unentered back_ends w.1 (fresh tx.0) (begin tx ∷ []) (enter tx b ∷ cs) b (begin_opens tx) (record { beside = (refl, closes.beside); undone = λ h. inr (closes.undone h) }) (fresh_within tx.0) answers));
+      }
 
   module _ (plain : Each (λ x. IsTrue (is_plain x.1)) (w ∷ ws)) where
-    by_enter : (tx : Tx) (b : Answer) (cs : List Call) (replies : List Reply) → Follows false (goes_on (goes_on whole (answer.Begun tx)) b) cs replies → AreAnswers (begin tx ∷ enter tx b ∷ cs)
-        → Divided back_ends (w ∷ ws) (begin tx ∷ enter tx b ∷ cs) replies
-    by_enter tx answer.Done cs replies f answers =
-        divided (begin tx ∷ enter tx answer.Done ∷ cs) replies
-        (all_right back_ends owner few (w ∷ ws) (fresh tx.0) (begin tx ∷ enter tx answer.Done ∷ []) cs replies (record { beside = (refl, (refl, tt)); no_rows = refl }) (fresh_within tx.0) plain f answers)
+    by_enter : (tx : Tx) (b : Answer) (cs : List Call) (replies : List Reply) → Follows false (goes_on (goes_on whole_talk (answer.Begun tx)) b) cs replies → AreAnswers (begin tx ∷ enter tx b ∷ cs)
+        → BegunItems back_ends owner (w ∷ ws) (begin tx ∷ enter tx b ∷ cs) replies
+    by_enter tx answer.Done cs replies f answers = record {
+      tx = tx;
+      more = enter tx answer.Done ∷ cs;
+      whole = refl;
+      no_begin = (refl, unbegun_followed false (going back_ends owner (statements (w ∷ ws)) (fresh tx.0)) cs replies f (going_unbegun back_ends owner (statements (w ∷ ws)) (fresh tx.0)));
+      items = all_right back_ends owner few tx.0 (w ∷ ws) (fresh tx.0) (begin tx ∷ enter tx answer.Done ∷ []) cs replies refl (record { beside = (refl, (refl, tt)); no_rows = refl })
+          (fresh_within tx.0) plain f answers;
+    }
     by_enter tx b cs replies f answers = refused tx b cs replies f answers
 
-    by_begin : (a : Answer) (cs : List Call) (replies : List Reply) → Follows false (goes_on whole a) cs replies → AreAnswers (call fes1 (request.Begin owner) a ∷ cs)
-        → begins_of (call fes1 (request.Begin owner) a ∷ cs) ≢ [] → Divided back_ends (w ∷ ws) (call fes1 (request.Begin owner) a ∷ cs) replies
+    pub by_begin : (a : Answer) (cs : List Call) (replies : List Reply) → Follows false (goes_on whole_talk a) cs replies → AreAnswers (call fes1 (request.Begin owner) a ∷ cs)
+        → begins_of (call fes1 (request.Begin owner) a ∷ cs) ≢ [] → BegunItems back_ends owner (w ∷ ws) (call fes1 (request.Begin owner) a ∷ cs) replies
     by_begin (answer.Begun tx) _ replies (asked {cs = cs} b j g) answers begun = by_enter tx b cs replies g answers
     by_begin a cs replies f answers begun = absurd (begun (ap begins_of (over (refusal_of fes1 a ∷ []) replies cs f).0))
 
+-- a transaction that was begun has items
+pub begun_items : (back_ends : ℕ) (owner : Owner) (w : Given) (ws : List Given) (calls : List Call) (replies : List Reply) → back_ends ≤ most_back_ends → Each (λ x. IsTrue (is_plain x.1)) (w ∷ ws)
+    → Follows false (transaction back_ends owner (statements (w ∷ ws))) calls replies → AreAnswers calls → begins_of calls ≢ [] → BegunItems back_ends owner (w ∷ ws) calls replies
+begun_items back_ends owner w ws _ replies few plain (asked {cs = cs} a i f) answers begun = by_begin back_ends owner w ws few plain a cs replies f answers begun
+
+abbrev pub divided : (back_ends : ℕ) (whose : Option ℕ) (works : List Given) (calls : List Call) (replies : List Reply) → Items back_ends whose works nothing_spent calls replies → Divided back_ends works calls replies
+divided back_ends whose works calls replies i = record { items = i.items; made_of = i.made_of; each = i.each; right = i.right }
+
 pub transactions_right : TransactionsAreRight
-transactions_right back_ends owner w ws _ replies few plain (asked {cs = cs} a i f) answers begun = by_begin back_ends owner w ws few plain a cs replies f answers begun
+transactions_right back_ends owner w ws calls replies few plain follows answers begun =
+    let b = begun_items back_ends owner w ws calls replies few plain follows answers begun in divided back_ends (Some b.tx.0) (w ∷ ws) calls replies b.items

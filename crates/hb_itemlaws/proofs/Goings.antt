@@ -1,6 +1,6 @@
 -- The items of a transaction that is begun, statement by statement.
-use Rattle.std.proofs.Common.{◌≡◌, ℕ, ◌+◌, ◌≤◌, List, [], ◌∷◌, ◌++◌, Result, Ok, Err, Some, Bool, true, false, not, refl, subst, sym, ap, ◌∙◌}
-use Rattle.std.specs.Prelude.{IsTrue, if◌then◌else◌}
+use Rattle.std.proofs.Common.{◌≡◌, ℕ, ◌+◌, ◌≤◌, List, [], ◌∷◌, ◌++◌, Option, None, Result, Ok, Err, Some, Bool, true, false, not, refl, subst, sym, ap, ◌∙◌}
+use Rattle.std.specs.Prelude.{IsTrue, ⊤, if◌then◌else◌}
 use Rattle.std.proofs.lemmas.Bool.{false≢true}
 use Rattle.std.proofs.lemmas.List.{append-nil, append_assoc}
 use Rattle.hb_types.specs.declared.names.Owner.{Owner}
@@ -30,27 +30,30 @@ use Rattle.hb_faithful.proofs.Does.{plan_does}
 use Rattle.hb_faithful.proofs.Faithfuls.{plan_faithful}
 use Rattle.hb_faithful.proofs.Rolling.{rolling_closes}
 use Rattle.hb_faithful.proofs.Telling.{plan_tells_undone}
-use Rattle.hb_law.specs.Transactions.{AreRight, IsRightStatement}
+use Rattle.hb_law.specs.Transactions.{AreRight, IsBare, IsRightStatement}
 use Rattle.hb_itemlaws.specs.Dividing.{AreItemsOf, Given, statements}
-use Rattle.hb_itemlaws.proofs.Commits.{committing_tells, no_rows, tells_more}
+use Rattle.hb_itemlaws.proofs.Commits.{bare_beside, committing_tells, tells_more}
+use Rattle.hb_itemlaws.specs.Owning.{StartsOwn}
+use Rattle.hb_itemlaws.proofs.Owned.{first_followed, going_first, own_said}
+use Rattle.hb_itemlaws.proofs.OwnPlans.{owns_plan}
 use Rattle.hb_itemlaws.proofs.Splits.{over, split}
 use Rattle.hb_planlocks.proofs.RowLocks.{filter-more}
 use Rattle.hb_model.specs.Answers.{is_of_rows, of_rows}
 
 -- ---- one statement
 
-abbrev is_commit : Statement → Bool
+abbrev pub is_commit : Statement → Bool
 is_commit statement.Commit = true
 is_commit _ = false
 
 -- a faithful statement is right, and so is a COMMIT that tells what was decided
-right_faithful : (back_ends : ℕ) (spent : Spent) (st : Statement) (calls : List Call) (r : Reply) → IsTrue (not (is_commit st)) → (full : Bool) × Faithful back_ends spent full st calls r
+pub right_faithful : (back_ends : ℕ) (spent : Spent) (st : Statement) (calls : List Call) (r : Reply) → IsTrue (not (is_commit st)) → (full : Bool) × Faithful back_ends spent full st calls r
     → IsRightStatement back_ends spent st calls (Some r)
 right_faithful back_ends spent statement.Commit calls r other f = absurd (false≢true other)
 right_faithful back_ends spent _ calls r other f = f
 
 -- a plan is what a transaction asks first for a statement that has one
-going_planned : (back_ends : ℕ) (owner : Owner) (st : Statement) (sts : List Statement) (u : Use) → IsTrue (is_planned st)
+pub going_planned : (back_ends : ℕ) (owner : Owner) (st : Statement) (sts : List Statement) (u : Use) → IsTrue (is_planned st)
     → going back_ends owner (st ∷ sts) u ≡ going_on (λ p. after (going back_ends owner sts) p.0 p.1) (plan back_ends st u)
 unfolding going
 going_planned back_ends owner statement.Commit sts u p = absurd (false≢true p)
@@ -68,11 +71,32 @@ spending_whole spent front asked opens =
     let g : grants_in (front ++ asked) ≡ grants_in asked = ap (λ xs. grants_in (front ++ xs)) (sym (append-nil asked)) ∙ same_grants front asked [] opens tt in
     λ i. record { bytes = spent.bytes + b i; locks = spent.locks + g i }
 
-rowless_whole : (front calls : List Call) → AreBeside front → of_rows calls ≡ [] → of_rows (front ++ calls) ≡ []
-rowless_whole front calls opens none =
-    filter-more (λ (c : Call). is_of_rows c.request) front calls ∙ ap (λ xs. xs ++ of_rows calls) (no_rows front opens) ∙ none
+bare_whole : (front calls : List Call) → AreBeside front → IsBare calls → IsBare (front ++ calls)
+bare_whole front calls opens bare = (
+  filter-more (λ (c : Call). is_of_rows c.request) front calls ∙ ap (λ xs. xs ++ of_rows calls) (bare_beside front opens).0 ∙ bare.0,
+  ap (λ xs. grants_in (front ++ xs)) (sym (append-nil calls)) ∙ same_grants front calls [] opens tt ∙ bare.1,
+)
 
 -- ---- all of them
+
+-- the calls begin with one of this transaction, if one is named
+abbrev pub StartsOf : Option ℕ → List Call → Type 0
+StartsOf None calls = ⊤
+StartsOf (Some tx) calls = StartsOwn tx calls
+
+-- each item behind the first does
+abbrev pub OthersStart : Option ℕ → List Item → Type 0
+OthersStart whose [] = ⊤
+OthersStart whose (i ∷ is) = Each (λ j. StartsOf whose j.calls) is
+
+starts_front : (whose : Option ℕ) (xs ys : List Call) → StartsOf whose (xs ++ ys) → StartsOf whose xs
+starts_front None xs ys h = tt
+starts_front (Some tx) [] ys h = tt
+starts_front (Some tx) (x ∷ xs) ys h = h
+
+pub all_start : (whose : Option ℕ) (items : List Item) → StartsOf whose (calls_of items) → OthersStart whose items → Each (λ j. StartsOf whose j.calls) items
+all_start whose [] starts own = tt
+all_start whose (i ∷ is) starts own = (starts_front whose i.calls (calls_of is) starts, own)
 
 -- calls before the first statement, which there is if there are such calls
 abbrev pub Fronted : List Given → List Call → Type 0
@@ -83,38 +107,48 @@ no_front : (works : List Given) → Fronted works []
 no_front [] = refl
 no_front (w ∷ ws) = record { beside = tt; no_rows = refl }
 
-pub record Items (back_ends : ℕ) (works : List Given) (spent : Spent) (calls : List Call) (replies : List Reply) : Type 0 where
+pub record Items (back_ends : ℕ) (whose : Option ℕ) (works : List Given) (spent : Spent) (calls : List Call) (replies : List Reply) : Type 0 where
   pub items : List Item
   pub made_of : calls_of items ≡ calls
   pub each : AreItemsOf works replies items
   pub right : AreRight back_ends spent items
+  pub own : OthersStart whose items
 
 -- an item at the head of others
-abbrev item_of : Given → List Call → Reply → Item
+abbrev pub item_of : Given → List Call → Reply → Item
 item_of w calls r = record { place = w.0; doing = sql w.1; calls = calls; lines = r ∷ [] }
 
-module _ (back_ends : ℕ) (owner : Owner) (few : back_ends ≤ most_back_ends) where
+-- a statement that left its transaction open: its item is right, and what it spent is counted
+pub record KeptItem (back_ends : ℕ) (st : Statement) (u v : Use) (calls rest : List Call) (r : Reply) : Type 0 where
+  pub right : IsRightStatement back_ends (spent_of u) st calls (Some r)
+  pub within : IsWithin v
+  pub spent : spent_of v ≡ spending (spent_of u) calls
+  pub behind : AreAnswers rest
+
+module _ (back_ends : ℕ) (whose : Option ℕ) where
   -- the last statement of a transaction
-  pub only : (w : Given) (ws : List Given) (spent : Spent) (calls : List Call) (r : Reply) → IsRightStatement back_ends spent w.1 calls (Some r) → Items back_ends (w ∷ ws) spent calls (r ∷ [])
-  only w ws spent calls r right = record { items = item_of w calls r ∷ []; made_of = append-nil calls; each = ((refl, refl, refl), last ws); right = (right, tt) }
+  pub only : (w : Given) (ws : List Given) (spent : Spent) (calls : List Call) (r : Reply) → IsRightStatement back_ends spent w.1 calls (Some r) → Items back_ends whose (w ∷ ws) spent calls (r ∷ [])
+  only w ws spent calls r right = record { items = item_of w calls r ∷ []; made_of = append-nil calls; each = ((refl, refl, refl), last ws); right = (right, tt); own = tt }
     where
       last : (ws : List Given) → AreItemsOf ws [] []
       last [] = tt
       last (x ∷ xs) = tt
 
   -- a statement before others
-  before : (w : Given) (ws : List Given) (spent : Spent) (calls more : List Call) (r : Reply) (rs : List Reply) → IsRightStatement back_ends spent w.1 calls (Some r)
-      → Items back_ends ws (spending spent calls) more rs → Items back_ends (w ∷ ws) spent (calls ++ more) (r ∷ rs)
-  before w ws spent calls more r rs right rest = record {
+  pub before : (w : Given) (ws : List Given) (spent : Spent) (calls more : List Call) (r : Reply) (rs : List Reply) → IsRightStatement back_ends spent w.1 calls (Some r) → StartsOf whose more
+      → Items back_ends whose ws (spending spent calls) more rs → Items back_ends whose (w ∷ ws) spent (calls ++ more) (r ∷ rs)
+  before w ws spent calls more r rs right starts rest = record {
     items = item_of w calls r ∷ rest.items;
     made_of = ap (λ xs. calls ++ xs) rest.made_of;
     each = ((refl, refl, refl), rest.each);
     right = (right, rest.right);
+    own = all_start whose rest.items (subst (StartsOf whose) (sym rest.made_of) starts) rest.own;
   }
 
+module _ (back_ends : ℕ) (owner : Owner) (few : back_ends ≤ most_back_ends) (tx : ℕ) where
   -- what follows a statement is divided
   abbrev Rest : List Given → Type 0
-  Rest ws = (v : Use) (ys : List Call) (qs : List Reply) → IsWithin v → Follows false (going back_ends owner (statements ws) v) ys qs → AreAnswers ys → Items back_ends ws (spent_of v) ys qs
+  Rest ws = (v : Use) (ys : List Call) (qs : List Reply) → v.tx ≡ tx → IsWithin v → Follows false (going back_ends owner (statements ws) v) ys qs → AreAnswers ys → Items back_ends (Some tx) ws (spent_of v) ys qs
 
   module _ (w : Given) (ws : List Given) (plain : IsTrue (is_plain w.1)) (other : IsTrue (not (is_commit w.1))) where
     rightly : (u v : Use) (front xs ys : List Call) (o : Result Reply Reply) (r : Reply) → reply_in o ≡ r → Opens front → Closes ys r → IsWithin u → Follows false (plan back_ends w.1 u) xs (o, v)
@@ -124,69 +158,81 @@ module _ (back_ends : ℕ) (owner : Owner) (few : back_ends ≤ most_back_ends) 
         (plan_faithful w.1 (plan_does w.1 plain) back_ends u (front ++ (xs ++ ys)) r few within
         (record { front = front; asked = xs; back = ys; parts = refl; outcome = o; last = v; follows = follows; replies = is; opens = opens; closes = closes }) answers)
 
-    -- the transaction goes on
-    kept : (u v : Use) (front xs ys : List Call) (rs : List Reply) (o : Result Reply Reply) → Opens front → IsWithin u → Follows false (plan back_ends w.1 u) xs (o, v) → says_undone (reply_in o) ≡ false
-        → Follows false (with_reply (reply_in o) (going back_ends owner (statements ws) v)) ys rs → AreAnswers (front ++ (xs ++ ys)) → Rest ws → Items back_ends (w ∷ ws) (spent_of u) (front ++ (xs ++ ys)) rs
-    kept u v front xs ys rs o opens within follows stays goes answers more =
+    -- its item, where the transaction goes on
+    pub kept_item : (u v : Use) (front xs ys : List Call) (o : Result Reply Reply) → Opens front → IsWithin u → Follows false (plan back_ends w.1 u) xs (o, v) → says_undone (reply_in o) ≡ false
+        → AreAnswers (front ++ (xs ++ ys)) → KeptItem back_ends w.1 u v (front ++ xs) ys (reply_in o)
+    kept_item u v front xs ys o opens within follows stays answers =
         let r : Reply = reply_in o in
-        let s = split (λ qs. says (r ∷ qs)) (going back_ends owner (statements ws) v) ys rs goes in
-        let done = over (r ∷ s.value) rs s.back s.rest in
-        let same : s.front ≡ ys = sym (append-nil s.front) ∙ ap (λ zs. s.front ++ zs) (sym done.0) ∙ sym s.parts in
         let P : Call → Type 0 = λ c. IsAnswer c.answer in
         let counts = (plan_counts w.1 back_ends u v xs o within follows).1 (ap not (kept_inside r stays)) in
         let none : xs ++ [] ≡ xs = append-nil xs in
         let here : AreAnswers (front ++ xs) = Each-front P (front ++ xs) ys (subst AreAnswers (sym (append_assoc front xs ys)) answers) in
-        let behind : AreAnswers s.front = subst AreAnswers (sym same) (Each-back P xs ys (Each-back P front (xs ++ ys) answers)) in
-        let right : IsRightStatement back_ends (spent_of u) w.1 (front ++ xs) (Some r) =
-        subst (λ zs. IsRightStatement back_ends (spent_of u) w.1 (front ++ zs) (Some r)) none
-        (rightly u v front xs [] o r refl opens (record { beside = tt; undone = λ h. absurd (false≢true (sym stays ∙ h)) }) within follows (subst (λ zs. AreAnswers (front ++ zs)) (sym none) here)) in
-        let rest : Items back_ends ws (spending (spent_of u) (front ++ xs)) s.front s.value =
-        subst (λ z. Items back_ends ws z s.front s.value) (counts.1 ∙ sym (spending_whole (spent_of u) front xs opens.beside)) (more v s.front s.value counts.0 s.first behind) in
-        subst (λ zs. Items back_ends (w ∷ ws) (spent_of u) zs rs) (ap (λ zs. (front ++ xs) ++ zs) same ∙ append_assoc front xs ys)
-        (subst (Items back_ends (w ∷ ws) (spent_of u) ((front ++ xs) ++ s.front)) (sym done.1) (before w ws (spent_of u) (front ++ xs) s.front r s.value right rest))
+        record {
+          right = subst (λ zs. IsRightStatement back_ends (spent_of u) w.1 (front ++ zs) (Some r)) none
+              (rightly u v front xs [] o r refl opens (record { beside = tt; undone = λ h. absurd (false≢true (sym stays ∙ h)) }) within follows (subst (λ zs. AreAnswers (front ++ zs)) (sym none) here));
+          within = counts.0;
+          spent = counts.1 ∙ sym (spending_whole (spent_of u) front xs opens.beside);
+          behind = Each-back P xs ys (Each-back P front (xs ++ ys) answers);
+        }
+
+    -- the transaction goes on
+    kept : (u v : Use) (front xs ys : List Call) (rs : List Reply) (o : Result Reply Reply) → u.tx ≡ tx → Opens front → IsWithin u → Follows false (plan back_ends w.1 u) xs (o, v) → says_undone (reply_in o) ≡ false
+        → Follows false (with_reply (reply_in o) (going back_ends owner (statements ws) v)) ys rs → AreAnswers (front ++ (xs ++ ys)) → Rest ws → Items back_ends (Some tx) (w ∷ ws) (spent_of u) (front ++ (xs ++ ys)) rs
+    kept u v front xs ys rs o of_tx opens within follows stays goes answers more =
+        let r : Reply = reply_in o in
+        let s = split (λ qs. says (r ∷ qs)) (going back_ends owner (statements ws) v) ys rs goes in
+        let done = over (r ∷ s.value) rs s.back s.rest in
+        let same : s.front ≡ ys = sym (append-nil s.front) ∙ ap (λ zs. s.front ++ zs) (sym done.0) ∙ sym s.parts in
+        let same_tx = own_said tx false (plan back_ends w.1 u) xs (o, v) follows ((owns_plan back_ends w.1).holds tx u of_tx) in
+        let item = kept_item u v front xs ys o opens within follows stays answers in
+        let rest : Items back_ends (Some tx) ws (spending (spent_of u) (front ++ xs)) s.front s.value =
+        subst (λ z. Items back_ends (Some tx) ws z s.front s.value) item.spent (more v s.front s.value same_tx item.within s.first (subst AreAnswers (sym same) item.behind)) in
+        subst (λ zs. Items back_ends (Some tx) (w ∷ ws) (spent_of u) zs rs) (ap (λ zs. (front ++ xs) ++ zs) same ∙ append_assoc front xs ys)
+        (subst (Items back_ends (Some tx) (w ∷ ws) (spent_of u) ((front ++ xs) ++ s.front)) (sym done.1) (before back_ends (Some tx) w ws (spent_of u) (front ++ xs) s.front r s.value item.right
+        (first_followed tx (going back_ends owner (statements ws) v) s.front s.value s.first (going_first back_ends owner (statements ws) tx v same_tx)) rest))
 
     -- the transaction is rolled back
     rolled : (u v : Use) (front xs ys : List Call) (rs : List Reply) (o : Result Reply Reply) (r : Reply) → reply_in o ≡ r → Opens front → IsWithin u → Follows false (plan back_ends w.1 u) xs (o, v)
-        → Follows false (going_on (λ s. says (s ∷ [])) (rolling_back v 0 r)) ys rs → AreAnswers (front ++ (xs ++ ys)) → Items back_ends (w ∷ ws) (spent_of u) (front ++ (xs ++ ys)) rs
+        → Follows false (going_on (λ s. says (s ∷ [])) (rolling_back v 0 r)) ys rs → AreAnswers (front ++ (xs ++ ys)) → Items back_ends (Some tx) (w ∷ ws) (spent_of u) (front ++ (xs ++ ys)) rs
     rolled u v front xs ys rs o r is opens within follows goes answers =
         let s = split (λ z. says (z ∷ [])) (rolling_back v 0 r) ys rs goes in
         let done = over (s.value ∷ []) rs s.back s.rest in
         let closes = rolling_closes v 0 r s.value s.front s.first in
         let same : s.front ≡ ys = sym (append-nil s.front) ∙ ap (λ zs. s.front ++ zs) (sym done.0) ∙ sym s.parts in
-        subst (Items back_ends (w ∷ ws) (spent_of u) (front ++ (xs ++ ys))) (ap (λ z. z ∷ []) (sym closes.0) ∙ sym done.1)
-        (only w ws (spent_of u) (front ++ (xs ++ ys)) r (rightly u v front xs ys o r is opens (subst (λ zs. Closes zs r) same closes.1) within follows answers))
+        subst (Items back_ends (Some tx) (w ∷ ws) (spent_of u) (front ++ (xs ++ ys))) (ap (λ z. z ∷ []) (sym closes.0) ∙ sym done.1)
+        (only back_ends (Some tx) w ws (spent_of u) (front ++ (xs ++ ys)) r (rightly u v front xs ys o r is opens (subst (λ zs. Closes zs r) same closes.1) within follows answers))
 
-    after_plan : (u v : Use) (front xs ys : List Call) (rs : List Reply) (o : Result Reply Reply) → IsTrue (is_planned w.1) → Opens front → IsWithin u → Follows false (plan back_ends w.1 u) xs (o, v)
-        → Follows false (after (going back_ends owner (statements ws)) o v) ys rs → AreAnswers (front ++ (xs ++ ys)) → Rest ws → Items back_ends (w ∷ ws) (spent_of u) (front ++ (xs ++ ys)) rs
-    after_plan u v front xs ys rs (Ok r) planned opens within follows goes answers more =
-        kept u v front xs ys rs (Ok r) opens within follows (plan_tells_undone w.1 planned back_ends u v xs (Ok r) follows) goes answers more
-    after_plan u v front xs ys rs (Err e) planned opens within follows goes answers more =
+    after_plan : (u v : Use) (front xs ys : List Call) (rs : List Reply) (o : Result Reply Reply) → IsTrue (is_planned w.1) → u.tx ≡ tx → Opens front → IsWithin u → Follows false (plan back_ends w.1 u) xs (o, v)
+        → Follows false (after (going back_ends owner (statements ws)) o v) ys rs → AreAnswers (front ++ (xs ++ ys)) → Rest ws → Items back_ends (Some tx) (w ∷ ws) (spent_of u) (front ++ (xs ++ ys)) rs
+    after_plan u v front xs ys rs (Ok r) planned of_tx opens within follows goes answers more =
+        kept u v front xs ys rs (Ok r) of_tx opens within follows (plan_tells_undone w.1 planned back_ends u v xs (Ok r) follows) goes answers more
+    after_plan u v front xs ys rs (Err e) planned of_tx opens within follows goes answers more =
         by (rolls_back e) (plan_tells_undone w.1 planned back_ends u v xs (Err e) follows) goes
       where
         by : (b : Bool) → says_undone e ≡ b → Follows false (if b then going_on (λ s. says (s ∷ [])) (rolling_back v 0 e) else with_reply e (going back_ends owner (statements ws) v)) ys rs
-            → Items back_ends (w ∷ ws) (spent_of u) (front ++ (xs ++ ys)) rs
+            → Items back_ends (Some tx) (w ∷ ws) (spent_of u) (front ++ (xs ++ ys)) rs
         by true is g = rolled u v front xs ys rs (Err e) e refl opens within follows g answers
-        by false is g = kept u v front xs ys rs (Err e) opens within follows is g answers more
+        by false is g = kept u v front xs ys rs (Err e) of_tx opens within follows is g answers more
 
-    planned_right : (u : Use) (front cs : List Call) (rs : List Reply) → IsTrue (is_planned w.1) → Opens front → IsWithin u → Follows false (going back_ends owner (w.1 ∷ statements ws) u) cs rs
-        → AreAnswers (front ++ cs) → Rest ws → Items back_ends (w ∷ ws) (spent_of u) (front ++ cs) rs
-    planned_right u front cs rs planned opens within f answers more =
+    planned_right : (u : Use) (front cs : List Call) (rs : List Reply) → IsTrue (is_planned w.1) → u.tx ≡ tx → Opens front → IsWithin u → Follows false (going back_ends owner (w.1 ∷ statements ws) u) cs rs
+        → AreAnswers (front ++ cs) → Rest ws → Items back_ends (Some tx) (w ∷ ws) (spent_of u) (front ++ cs) rs
+    planned_right u front cs rs planned of_tx opens within f answers more =
         let go : Result Reply Reply × Use → Talk (List Reply) = λ p. after (going back_ends owner (statements ws)) p.0 p.1 in
         let s = split go (plan back_ends w.1 u) cs rs (subst (λ t. Follows false t cs rs) (going_planned back_ends owner w.1 (statements ws) u planned) f) in
-        subst (λ zs. Items back_ends (w ∷ ws) (spent_of u) (front ++ zs) rs) (sym s.parts)
-        (after_plan u s.value.1 front s.front s.back rs s.value.0 planned opens within s.first s.rest (subst (λ zs. AreAnswers (front ++ zs)) s.parts answers) more)
+        subst (λ zs. Items back_ends (Some tx) (w ∷ ws) (spent_of u) (front ++ zs) rs) (sym s.parts)
+        (after_plan u s.value.1 front s.front s.back rs s.value.0 planned of_tx opens within s.first s.rest (subst (λ zs. AreAnswers (front ++ zs)) s.parts answers) more)
 
   -- ---- the last statements
 
-  going_commit : (sts : List Statement) (u : Use) → going back_ends owner (statement.Commit ∷ sts) u ≡ going_on (λ r. says (r ∷ [])) (committing owner u reply.Committed)
+  pub going_commit : (sts : List Statement) (u : Use) → going back_ends owner (statement.Commit ∷ sts) u ≡ going_on (λ r. says (r ∷ [])) (committing owner u reply.Committed)
   unfolding going
   going_commit sts u = refl
 
-  going_rollback : (sts : List Statement) (u : Use) → going back_ends owner (statement.Rollback ∷ sts) u ≡ going_on (λ r. says (r ∷ [])) (rolling_back u 0 reply.RolledBack)
+  pub going_rollback : (sts : List Statement) (u : Use) → going back_ends owner (statement.Rollback ∷ sts) u ≡ going_on (λ r. says (r ∷ [])) (rolling_back u 0 reply.RolledBack)
   unfolding going
   going_rollback sts u = refl
 
-  going_none : (u : Use) → going back_ends owner [] u ≡ says []
+  pub going_none : (u : Use) → going back_ends owner [] u ≡ says []
   unfolding going
   going_none u = refl
 
@@ -195,25 +241,25 @@ module _ (back_ends : ℕ) (owner : Owner) (few : back_ends ≤ most_back_ends) 
   rollback_plan u = ends
 
   commit_right : (place : ℕ) (ws : List Given) (u : Use) (front cs : List Call) (rs : List Reply) → Opens front → Follows false (going back_ends owner (statement.Commit ∷ statements ws) u) cs rs
-      → Items back_ends ((place, statement.Commit) ∷ ws) (spent_of u) (front ++ cs) rs
+      → Items back_ends (Some tx) ((place, statement.Commit) ∷ ws) (spent_of u) (front ++ cs) rs
   commit_right place ws u front cs rs opens f =
       let s = split (λ r. says (r ∷ [])) (committing owner u reply.Committed) cs rs (subst (λ t. Follows false t cs rs) (going_commit (statements ws) u) f) in
       let done = over (s.value ∷ []) rs s.back s.rest in
       let tells = committing_tells owner u s.value s.front s.first in
       let same : s.front ≡ cs = sym (append-nil s.front) ∙ ap (λ zs. s.front ++ zs) (sym done.0) ∙ sym s.parts in
-      subst (λ zs. Items back_ends ((place, statement.Commit) ∷ ws) (spent_of u) (front ++ zs) rs) same
-      (subst (Items back_ends ((place, statement.Commit) ∷ ws) (spent_of u) (front ++ s.front)) (sym done.1)
-      (only (place, statement.Commit) ws (spent_of u) (front ++ s.front) s.value (rowless_whole front s.front opens.beside tells.rowless, tells_more front s.front s.value opens.beside tells.told)))
+      subst (λ zs. Items back_ends (Some tx) ((place, statement.Commit) ∷ ws) (spent_of u) (front ++ zs) rs) same
+      (subst (Items back_ends (Some tx) ((place, statement.Commit) ∷ ws) (spent_of u) (front ++ s.front)) (sym done.1)
+      (only back_ends (Some tx) (place, statement.Commit) ws (spent_of u) (front ++ s.front) s.value (bare_whole front s.front opens.beside tells.bare, tells_more front s.front s.value opens.beside tells.told)))
 
-  pub all_right : (works : List Given) (u : Use) (front cs : List Call) (rs : List Reply) → Fronted works front → IsWithin u → Each (λ w. IsTrue (is_plain w.1)) works
-      → Follows false (going back_ends owner (statements works) u) cs rs → AreAnswers (front ++ cs) → Items back_ends works (spent_of u) (front ++ cs) rs
-  all_right [] u front cs rs none within plain f answers =
+  pub all_right : (works : List Given) (u : Use) (front cs : List Call) (rs : List Reply) → u.tx ≡ tx → Fronted works front → IsWithin u → Each (λ w. IsTrue (is_plain w.1)) works
+      → Follows false (going back_ends owner (statements works) u) cs rs → AreAnswers (front ++ cs) → Items back_ends (Some tx) works (spent_of u) (front ++ cs) rs
+  all_right [] u front cs rs of_tx none within plain f answers =
       let done = over [] rs cs (subst (λ t. Follows false t cs rs) (going_none u) f) in
-      subst (Items back_ends [] (spent_of u) (front ++ cs)) (sym done.1)
-      (record { items = []; made_of = sym (ap (λ zs. zs ++ cs) none ∙ done.0); each = tt; right = tt })
-  all_right ((place, statement.Commit) ∷ ws) u front cs rs opens within plain f answers = commit_right place ws u front cs rs opens f
-  all_right ((place, statement.Rollback) ∷ ws) u front cs rs opens within plain f answers =
+      subst (Items back_ends (Some tx) [] (spent_of u) (front ++ cs)) (sym done.1)
+      (record { items = []; made_of = sym (ap (λ zs. zs ++ cs) none ∙ done.0); each = tt; right = tt; own = tt })
+  all_right ((place, statement.Commit) ∷ ws) u front cs rs of_tx opens within plain f answers = commit_right place ws u front cs rs opens f
+  all_right ((place, statement.Rollback) ∷ ws) u front cs rs of_tx opens within plain f answers =
       rolled (place, statement.Rollback) ws refl refl u u front [] cs rs (Ok reply.RolledBack) reply.RolledBack refl opens within (rollback_plan u)
       (subst (λ t. Follows false t cs rs) (going_rollback (statements ws) u) f) answers
-  all_right ((place, st) ∷ ws) u front cs rs opens within plain f answers =
-      planned_right (place, st) ws plain.0 refl u front cs rs refl opens within f answers (λ v ys qs i g b. all_right ws v [] ys qs (no_front ws) i plain.1 g b)
+  all_right ((place, st) ∷ ws) u front cs rs of_tx opens within plain f answers =
+      planned_right (place, st) ws plain.0 refl u front cs rs refl of_tx opens within f answers (λ v ys qs e i g b. all_right ws v [] ys qs e (no_front ws) i plain.1 g b)

@@ -1,11 +1,13 @@
 -- The items of a division that made a call are a right transaction.
-use Rattle.std.proofs.Common.{◌≡◌, inl, ℕ, ◌+◌, List, [], ◌∷◌, length, subst, sym, ap, arith}
+use Rattle.std.proofs.Common.{◌≡◌, inl, ℕ, ◌+◌, List, [], ◌∷◌, ◌++◌, length, refl, subst, sym, ap, arith}
 use Rattle.hb_types.specs.declared.trail.Call.{Call}
 use Rattle.hb_types.specs.Lists.{Each}
+use Rattle.hb_types.proofs.Ascending.{Each-append}
 use Rattle.hb_model.specs.declared.reply.Reply.{Reply}
 use Rattle.hb_model.specs.Items.{Doing, Item, Spent, spending}
 use Rattle.hb_law.specs.Transactions.{AllAnswered, AreRight, IsOfStatements, with_calls}
 use Rattle.hb_itemlaws.specs.Dividing.{AreItemsOf, Given, TxnsAreRight}
+use Rattle.hb_itemlaws.specs.GivingUp.{ClosedTxnsAreRight, closing}
 
 -- ---- what holds of each item holds of those with calls
 
@@ -67,3 +69,16 @@ txns_right back_ends owner tx works calls replies d = record {
     answered_by_line (with_calls d.items) (each_kept HasOneLine d.items (one_line_each works replies d.items d.each)),
   );
 }
+
+-- a rolling back behind them, with its line
+pub closed_txns_right : ClosedTxnsAreRight
+closed_txns_right back_ends place owner tx works calls replies why c =
+    let closes : List Item = closing place c.last why ∷ [] in
+    let items : List Item = c.items ++ closes in
+    record {
+      right = right_kept back_ends _ items c.right;
+      kinds = inl (
+        each_kept (λ i. IsOfStatements i.doing) items (Each-append (λ (i : Item). IsOfStatements i.doing) c.items closes (all_statements works replies c.items c.each) (tt, tt)),
+        answered_by_line (with_calls items) (each_kept HasOneLine items (Each-append HasOneLine c.items closes (one_line_each works replies c.items c.each) (refl, tt))),
+      );
+    }

@@ -3,4 +3,7 @@
 
 mod laws;
 
-pub use laws::{transactions_are_right, txns_are_right};
+pub use laws::{
+    closed_are_own, closed_are_right, closed_txns_are_right, given_up_are_own, given_up_are_right,
+    transactions_are_own, transactions_are_right, txns_are_right, unbegun_ask_nothing,
+};

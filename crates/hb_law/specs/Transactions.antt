@@ -11,7 +11,7 @@ use Rattle.hb_model.specs.declared.reply.Reply.{Reply}
 use Rattle.hb_model.specs.declared.reply.Reply.TheVariants as reply
 use Rattle.hb_model.specs.declared.statement.Statement.{Statement}
 use Rattle.hb_model.specs.declared.statement.Statement.TheVariants as statement
-use Rattle.hb_model.specs.Answers.{of_rows, HasAsked, is_decide}
+use Rattle.hb_model.specs.Answers.{HasAsked, grants_in, is_decide, of_rows}
 use Rattle.hb_model.specs.Asked.{AreWhereAsked}
 use Rattle.hb_model.specs.Faithful.{Faithful}
 use Rattle.hb_model.specs.Items.{Item, Doing, sql, turn, tending, calls_of, Spent, spending, nothing_spent}
@@ -109,10 +109,14 @@ CommitTells calls (Some (reply.Committed number)) = WasDecided number.0 calls
 CommitTells calls (Some (reply.OutcomeUnknown o)) = MayBeDecided calls
 CommitTells calls (Some r) = ¬ (MayBeDecided calls)
 
--- A COMMIT neither reads nor writes a row, and tells what was decided. Any other statement is faithful; while it has no
+-- no row is read or written, and no lock is granted
+abbrev pub IsBare : List Call → Type 0
+IsBare calls = (of_rows calls ≡ []) × (grants_in calls ≡ 0)
+
+-- A COMMIT neither reads nor writes a row nor locks, and tells what was decided. Any other statement is faithful; while it has no
 -- line it has decided nothing, and its locks are in the table of locks where its answers are a system's.
 abbrev pub IsRightStatement : ℕ → Spent → Statement → List Call → Option Reply → Type 0
-IsRightStatement back_ends spent statement.Commit calls r = (of_rows calls ≡ []) × CommitTells calls r
+IsRightStatement back_ends spent statement.Commit calls r = IsBare calls × CommitTells calls r
 IsRightStatement back_ends spent st calls (Some r) = (full : Bool) × Faithful back_ends spent full st calls r
 IsRightStatement back_ends spent st calls None = (¬ (HasAsked is_decide calls)) × (AreWhereAsked calls → LocksByTable st calls)
 
@@ -122,7 +126,7 @@ IsRightItem back_ends spent i = of i.doing
     of : Doing → Type 0
     of (sql st) = IsRightStatement back_ends spent st i.calls (reply_in i.lines)
     of (turn table most) = ⊤
-    of tending = ¬ (HasAsked is_decide i.calls)
+    of tending = (¬ (HasAsked is_decide i.calls)) × IsBare i.calls
 
 -- the items of one transaction, with what was spent before each
 abbrev pub AreRight : ℕ → Spent → List Item → Type 0

@@ -3,15 +3,18 @@ use Rattle.std.specs.Prelude.{◌≡◌, ℕ, ◌≤◌, Bool, true, false, not,
 use Rattle.std.specs.List.{list_any}
 use Rattle.hb_types.specs.declared.answer.Answer.TheVariants as answer
 use Rattle.hb_types.specs.declared.change.Stored.{Stored}
+use Rattle.hb_types.specs.declared.entry.Entry.TheVariants.{Moving}
 use Rattle.hb_types.specs.declared.names.Tx.{Tx}
 use Rattle.hb_types.specs.declared.request.Request.TheVariants as request
 use Rattle.hb_types.specs.declared.trail.Call.{Call}
 use Rattle.hb_types.specs.Groups.{is_moving}
 use Rattle.hb_types.specs.Lists.{Each, Has, IsIn}
 use Rattle.hb_types.specs.Places.{node_of_area}
+use Rattle.hb_types.specs.Rows.{row_bytes}
 use Rattle.hb_model.specs.declared.reply.Reply.{Reply}
 use Rattle.hb_model.specs.declared.reply.Reply.TheVariants as reply
 use Rattle.hb_model.specs.Answers.{call, of_rows, HasAsked, is_decide}
+use Rattle.hb_model.specs.Dictionary.{entry_row}
 use Rattle.hb_model.specs.Items.{Item, turn}
 use Rattle.hb_model.specs.Locking.{LocksAmong}
 use Rattle.hb_model.specs.Needs.{check_locks, batch_locks, finish_locks}
@@ -45,6 +48,10 @@ abbrev pub AreHintedKeys : Hint → ℕ → List Keyed → List Call → Type 0
 AreHintedKeys h most keys calls =
     IsIn (call (node_of_area h.old) (request.GroupKeys (space_in h.old h.table) h.group most) (answer.Keys (map (λ k. k.0) keys))) calls
 
+-- the row of the hinted entry tells that entry, as it does where both areas are numbers of areas
+abbrev pub TellsItself : Hint → Type 0
+TellsItself h = entry_of (Some (row_bytes (entry_row (Moving h.old h.new)))) ≡ Some (Moving h.old h.new)
+
 -- how many of these keys had a row
 abbrev pub found_in : List Keyed → ℕ
 found_in keys = count_by (λ k. is_some k.1) keys
@@ -56,14 +63,14 @@ pub data Turned : Type 0 where
   finished : Turned
 
 -- A turn's calls on rows are those of a whole check, batch or finish, and its locks are in the table of locks. A batch and
--- a finish are on a number that an earlier check of their line found.
+-- a finish are on a number that an earlier check of their line found, and on an entry that its row tells.
 pub data IsTurn (before : List Item) (place : ℕ) (table : List ℕ) (most : ℕ) (calls : List Call) : Turned → Type 0 where
   check : (tx : Tx) (number : ℕ) (names entries : List Stored) → of_rows calls ≡ check_calls tx number names entries → IsNumberTold names table number
       → LocksAmong (check_locks number) calls → IsTurn before place table most calls (checked entries)
-  batch : (tx : Tx) (h : Hint) (keys : List Keyed) → of_rows calls ≡ batch_calls tx h keys → AreHintedKeys h most keys calls
+  batch : (tx : Tx) (h : Hint) (keys : List Keyed) → TellsItself h → of_rows calls ≡ batch_calls tx h keys → AreHintedKeys h most keys calls
       → Has (WasCheck place table most h.table) before → LocksAmong (batch_locks h.table h.group h.old h.new (map (λ k. k.0) keys)) calls
       → IsTurn before place table most calls (moved h.group (found_in keys))
-  finish : (tx : Tx) (h : Hint) → of_rows calls ≡ finish_calls tx h → Has (WasCheck place table most h.table) before
+  finish : (tx : Tx) (h : Hint) → TellsItself h → of_rows calls ≡ finish_calls tx h → Has (WasCheck place table most h.table) before
       → LocksAmong (finish_locks h.table h.group h.old) calls → IsTurn before place table most calls finished
 
 -- a line of a turn that asked for a decision is so, by what the turn did and by the answer of its Decide

@@ -1,1 +1,11 @@
 pub mod Sessions
+pub mod Courses
+pub mod Positions
+pub mod Showing
+pub mod Stepping
+pub mod Running
+pub mod Planning
+pub mod GivingUp
+pub mod Ending
+pub mod Obeying
+pub mod Owning

@@ -1,1 +1,3 @@
 pub mod Sitting
+pub mod GivingUp
+pub mod Owning

@@ -3,4 +3,8 @@
 
 mod laws;
 
-pub use laws::sessions_are_right;
+pub use laws::{
+    closed_sessions_are_own, closed_sessions_are_right, given_up_sessions_are_own,
+    given_up_sessions_are_right, sessions_are_own, sessions_are_right,
+    unbegun_sessions_ask_nothing,
+};

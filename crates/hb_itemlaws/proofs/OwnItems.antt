@@ -1,0 +1,124 @@
+-- Of a transaction's items with calls the first begins it, and each other asks something of it.
+use Rattle.std.proofs.Common.{◌≡◌, inl, ℕ, List, [], ◌∷◌, ◌++◌, Some, None, true, false, refl, subst, sym, ap, ◌∙◌}
+use Rattle.std.specs.Prelude.{IsTrue}
+use Rattle.std.proofs.lemmas.Bool.{false≢true}
+use Rattle.hb_types.specs.declared.answer.Answer.{Answer}
+use Rattle.hb_types.specs.declared.answer.Answer.TheVariants as answer
+use Rattle.hb_types.specs.declared.names.Owner.{Owner}
+use Rattle.hb_types.specs.declared.request.Request.{Request}
+use Rattle.hb_types.specs.declared.request.Request.TheVariants as request
+use Rattle.hb_types.specs.declared.trail.Call.{Call}
+use Rattle.hb_types.specs.Lists.{Each}
+use Rattle.hb_types.proofs.Ascending.{Each-back, Each-front}
+use Rattle.hb_model.specs.declared.reply.Reply.{Reply}
+use Rattle.hb_model.specs.Answers.{call}
+use Rattle.hb_model.specs.Items.{Doing, Item, calls_of}
+use Rattle.hb_talk.specs.Ends.{fes1}
+use Rattle.hb_talk.specs.Sessions.{transaction}
+use Rattle.hb_talk.specs.Talk.{Follows, asked, refusal_of}
+use Rattle.hb_law.specs.Callers.{is_begun}
+use Rattle.hb_law.specs.Transactions.{AllAsk, begins_of, begun_in, tx_asked, with_calls}
+use Rattle.hb_itemlaws.specs.Owning.{AreBegins, AreOwn, NoBegin, StartsOwn, TransactionsAreOwn, UnbegunAskNothing, is_begin}
+use Rattle.hb_itemlaws.proofs.Dividing.{begun_items, divided}
+use Rattle.hb_itemlaws.proofs.Goings.{OthersStart}
+use Rattle.hb_itemlaws.proofs.Owned.{none_is_some}
+use Rattle.hb_itemlaws.specs.Dividing.{statements}
+use Rattle.hb_itemlaws.proofs.Splits.{goes_on, over}
+
+-- ---- calls that begin nothing
+
+begun_none : (a : Answer) (q : Request) → is_begin q ≡ false → (IsTrue (is_begun a) → IsTrue (is_begin q)) → begun_in a ≡ []
+begun_none (answer.Begun tx) q plain h = absurd (false≢true (sym plain ∙ h refl))
+begun_none _ q plain h = refl
+
+begins_none : (calls : List Call) → NoBegin calls → AreBegins calls → begins_of calls ≡ []
+begins_none [] plain sys = refl
+begins_none (c ∷ cs) plain sys = ap (λ xs. xs ++ begins_of cs) (begun_none c.answer c.request plain.0 sys.0) ∙ begins_none cs plain.1 sys.1
+
+abbrev IsOfSystem : Call → Type 0
+IsOfSystem c = IsTrue (is_begun c.answer) → IsTrue (is_begin c.request)
+
+abbrev IsNoBegin : Call → Type 0
+IsNoBegin c = is_begin c.request ≡ false
+
+module _ (tx : ℕ) where
+  abbrev Starts : Item → Type 0
+  Starts i = StartsOwn tx i.calls
+
+  -- ---- items behind the first
+
+  ask_one : (place : ℕ) (doing : Doing) (calls : List Call) (lines : List Reply) (is : List Item) → StartsOwn tx calls → begins_of calls ≡ [] → AllAsk tx (with_calls is)
+      → AllAsk tx (with_calls (record { place = place; doing = doing; calls = calls; lines = lines } ∷ is))
+  ask_one place doing [] lines is starts none more = more
+  ask_one place doing (c ∷ cs) lines is starts none more = ((none, inl starts), more)
+
+  all_ask : (items : List Item) → Each Starts items → NoBegin (calls_of items) → AreBegins (calls_of items) → AllAsk tx (with_calls items)
+  all_ask [] starts plain sys = tt
+  all_ask (i ∷ is) starts plain sys =
+      ask_one i.place i.doing i.calls i.lines is starts.0 (begins_none i.calls (Each-front IsNoBegin i.calls (calls_of is) plain) (Each-front IsOfSystem i.calls (calls_of is) sys))
+      (all_ask is starts.1 (Each-back IsNoBegin i.calls (calls_of is) plain) (Each-back IsOfSystem i.calls (calls_of is) sys))
+
+  -- ---- the first
+
+  abbrev head_asked : List Call → Call → Request
+  head_asked [] other = other.request
+  head_asked (c ∷ cs) other = c.request
+
+  unlike : (calls rest more : List Call) (c : Call) → tx_asked c.request ≡ None → StartsOwn tx calls → calls ++ rest ≡ c ∷ more → (rest ≡ c ∷ more → ⊥) → ⊥
+  unlike [] rest more c none starts e other = other e
+  unlike (x ∷ xs) rest more c none starts e other = none_is_some tx (sym none ∙ ap (λ zs. tx_asked (head_asked zs x)) (sym e) ∙ starts)
+
+  -- a Begin is none of those behind the first
+  begun_first : (items : List Item) (c : Call) (more : List Call) → tx_asked c.request ≡ None → Each Starts items → calls_of items ≡ c ∷ more → ⊥
+  begun_first [] c more none starts e = absurd (cc e)
+  begun_first (i ∷ is) c more none starts e = unlike i.calls (calls_of is) more c none starts.0 e (begun_first is c more none starts.1)
+
+  abbrev tail_calls : List Call → List Call
+  tail_calls [] = []
+  tail_calls (c ∷ cs) = cs
+
+  abbrev answer_in : List Call → Answer → Answer
+  answer_in [] other = other
+  answer_in (c ∷ cs) other = c.answer
+
+  own_one : (place : ℕ) (doing : Doing) (calls : List Call) (lines : List Reply) (is : List Item) (c : Call) (more : List Call) → tx_asked c.request ≡ None → begun_in c.answer ≡ tx ∷ []
+      → Each Starts is → calls ++ calls_of is ≡ c ∷ more → NoBegin more → AreBegins more → AreOwn tx (record { place = place; doing = doing; calls = calls; lines = lines } ∷ is)
+  own_one place doing [] lines is c more none begun starts e plain sys = absurd (begun_first is c more none starts e)
+  own_one place doing (x ∷ xs) lines is c more none begun starts e plain sys =
+      let same : xs ++ calls_of is ≡ more = ap tail_calls e in
+      let quiet = subst NoBegin (sym same) plain in
+      let known = subst AreBegins (sym same) sys in
+      record {
+        first = record { place = place; doing = doing; calls = x ∷ xs; lines = lines };
+        others = with_calls is;
+        own = refl;
+        begins = ap (λ zs. zs ++ begins_of xs) (ap (λ zs. begun_in (answer_in zs x.answer)) e ∙ begun)
+            ∙ ap (λ zs. tx ∷ zs) (begins_none xs (Each-front IsNoBegin xs (calls_of is) quiet) (Each-front IsOfSystem xs (calls_of is) known));
+        asked = all_ask is starts (Each-back IsNoBegin xs (calls_of is) quiet) (Each-back IsOfSystem xs (calls_of is) known);
+      }
+
+  -- calls that begin with this transaction's Begin
+  pub own_items : (items : List Item) (c : Call) (more : List Call) → tx_asked c.request ≡ None → begun_in c.answer ≡ tx ∷ [] → OthersStart (Some tx) items → calls_of items ≡ c ∷ more
+      → NoBegin more → AreBegins more → AreOwn tx items
+  own_items [] c more none begun own e plain sys = absurd (cc e)
+  own_items (i ∷ is) c more none begun own e plain sys = own_one i.place i.doing i.calls i.lines is c more none begun own e plain sys
+
+-- ---- the laws
+
+pub transactions_own : TransactionsAreOwn
+transactions_own back_ends owner w ws calls replies few plain follows answers sys begun =
+    let b = begun_items back_ends owner w ws calls replies few plain follows answers begun in
+    let c : Call = call fes1 (request.Begin owner) (answer.Begun b.tx) in
+    let known = subst AreBegins b.whole sys in (
+      divided back_ends (Some b.tx.0) (w ∷ ws) calls replies b.items,
+      b.tx.0,
+      own_items b.tx.0 b.items.items c b.more refl refl b.items.own (b.items.made_of ∙ b.whole) b.no_begin known.1,
+    )
+
+pub unbegun_nothing : UnbegunAskNothing
+unbegun_nothing back_ends owner w ws _ replies (asked {cs = cs} a i f) none = by a cs f none
+  where
+    by : (a : Answer) (cs : List Call) → Follows false (goes_on (transaction back_ends owner (statements (w ∷ ws))) a) cs replies → begins_of (call fes1 (request.Begin owner) a ∷ cs) ≡ []
+        → Each (λ c. tx_asked c.request ≡ None) (call fes1 (request.Begin owner) a ∷ cs)
+    by (answer.Begun tx) cs f e = absurd (cc e)
+    by a cs f e = (refl, subst (λ zs. Each (λ (c : Call). tx_asked c.request ≡ None) zs) (sym (over (refusal_of fes1 a ∷ []) replies cs f).0) tt)
