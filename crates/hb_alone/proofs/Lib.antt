@@ -1,0 +1,4 @@
+mod Calls
+mod Counts
+pub mod Running
+pub mod Heard

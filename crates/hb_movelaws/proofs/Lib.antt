@@ -1,0 +1,11 @@
+pub mod RowCalls
+pub mod Found
+pub mod HintEntry
+pub mod Settling
+pub mod SettledState
+pub mod SettledRows
+pub mod SettledSystem
+pub mod Finishing
+pub mod KeyMove
+pub mod Batches
+pub mod Batching
