@@ -21,6 +21,10 @@ enum Says {
     Vote,
     Decided,
     Down,
+    Fault,
+    Spent,
+    NoBranch,
+    NoMemory,
 }
 
 #[derive(Drop)]
@@ -51,6 +55,10 @@ fn twice(says: Says) -> (Answer, Answer)
         ),
         Says::Decided => (Answer::Decided(Number(5)), Answer::Decided(Number(5))),
         Says::Down => (Answer::Down, Answer::Down),
+        Says::Fault => (Answer::Fault { area: false }, Answer::Fault { area: false }),
+        Says::Spent => (Answer::NumbersSpent, Answer::NumbersSpent),
+        Says::NoBranch => (Answer::NoBranch, Answer::NoBranch),
+        Says::NoMemory => (Answer::NoMemory, Answer::NoMemory),
     }
 }
 
@@ -99,6 +107,11 @@ fn shown(progress: Progress) -> u64 {
         Progress::Ended(Reply::RolledBack) => 200,
         Progress::Ended(Reply::RolledBackEnd) => 250,
         Progress::Ended(Reply::Down(node)) => 300 + u64::from(node.0),
+        Progress::Ended(Reply::Stopped(node)) => 400 + u64::from(node.0),
+        Progress::Ended(Reply::Lost(node)) => 500 + u64::from(node.0),
+        Progress::Ended(Reply::OutcomeUnknown(owner)) => 600u64.wrapping_add(owner.nth),
+        Progress::Ended(Reply::NumbersSpent) => 700,
+        Progress::Ended(Reply::NoMemory) => 800,
         Progress::Ended(_) => 4,
     }
 }
@@ -198,6 +211,78 @@ fn commits_at_one_node(rt: HostRuntime) -> Result<(), Fail> {
     let mut session = opened(rt.alloc());
     session.give(Statement::Commit)?;
     assert_eq!(rt; run(&mut session, &mut nodes), (105, 0x101a, false));
+    Ok(())
+}
+
+#[test]
+fn an_end_without_its_decision_is_unknown(rt: HostRuntime) -> Result<(), Fail> {
+    let mut nodes = Stated {
+        answers: [Says::Vote, Says::Fault, Says::Done, Says::Done],
+        made: Vec::new(rt.alloc()),
+    };
+    let mut session = opened(rt.alloc());
+    session.give(Statement::Commit)?;
+    assert_eq!(rt; run(&mut session, &mut nodes), (601, 0x10a, false));
+    Ok(())
+}
+
+#[test]
+fn a_commit_without_a_number_is_rolled_back(rt: HostRuntime) -> Result<(), Fail> {
+    let mut nodes = Stated {
+        answers: [Says::Vote, Says::Spent, Says::Done, Says::Done],
+        made: Vec::new(rt.alloc()),
+    };
+    let mut session = opened(rt.alloc());
+    session.give(Statement::Commit)?;
+    assert_eq!(rt; run(&mut session, &mut nodes), (700, 0x1001a, false));
+    Ok(())
+}
+
+#[test]
+fn a_commit_at_a_node_that_is_down_is_rolled_back(rt: HostRuntime) -> Result<(), Fail> {
+    let mut nodes = Stated {
+        answers: [Says::Down, Says::Done, Says::Down, Says::Done],
+        made: Vec::new(rt.alloc()),
+    };
+    let mut session = opened(rt.alloc());
+    session.give(Statement::Commit)?;
+    assert_eq!(rt; run(&mut session, &mut nodes), (301, 0x101a, false));
+    Ok(())
+}
+
+#[test]
+fn a_commit_at_a_node_that_faults_is_rolled_back(rt: HostRuntime) -> Result<(), Fail> {
+    let mut nodes = Stated {
+        answers: [Says::Fault, Says::Done, Says::Down, Says::Done],
+        made: Vec::new(rt.alloc()),
+    };
+    let mut session = opened(rt.alloc());
+    session.give(Statement::Commit)?;
+    assert_eq!(rt; run(&mut session, &mut nodes), (401, 0x101a, false));
+    Ok(())
+}
+
+#[test]
+fn a_commit_of_a_lost_branch_is_rolled_back(rt: HostRuntime) -> Result<(), Fail> {
+    let mut nodes = Stated {
+        answers: [Says::NoBranch, Says::Done, Says::NoBranch, Says::Done],
+        made: Vec::new(rt.alloc()),
+    };
+    let mut session = opened(rt.alloc());
+    session.give(Statement::Commit)?;
+    assert_eq!(rt; run(&mut session, &mut nodes), (501, 0x101a, false));
+    Ok(())
+}
+
+#[test]
+fn a_commit_without_memory_is_rolled_back(rt: HostRuntime) -> Result<(), Fail> {
+    let mut nodes = Stated {
+        answers: [Says::NoMemory, Says::Done, Says::Done, Says::Done],
+        made: Vec::new(rt.alloc()),
+    };
+    let mut session = opened(rt.alloc());
+    session.give(Statement::Commit)?;
+    assert_eq!(rt; run(&mut session, &mut nodes), (800, 0x101a, false));
     Ok(())
 }
 
