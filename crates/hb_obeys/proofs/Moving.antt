@@ -1,5 +1,5 @@
 -- pdrbal's checks, batches and finishes ask what is permitted.
-use Rattle.std.proofs.Common.{◌≡◌, inl, inr, ℕ, zero, suc, ◌+◌, ℤ, Bool, true, false, cond, List, [], ◌∷◌, ◌++◌, filter_map, Option, Some, None, Result, Ok, Err, refl, sym, subst, arith}
+use Rattle.std.proofs.Common.{◌≡◌, inl, inr, ℕ, zero, suc, ◌+◌, ℤ, Bool, true, false, cond, List, [], ◌∷◌, ◌++◌, ◌==◌, filter, filter_map, Option, Some, None, Result, Ok, Err, refl, sym, subst, arith}
 use Rattle.hb_types.specs.declared.answer.Answer.{Answer}
 use Rattle.hb_types.specs.declared.answer.Answer.TheVariants as answer
 use Rattle.hb_types.specs.declared.change.Stored.{Stored}
@@ -9,6 +9,7 @@ use Rattle.hb_types.specs.declared.names.Number.{Number}
 use Rattle.hb_types.specs.declared.names.Owner.{Owner}
 use Rattle.hb_types.specs.declared.places.Path.TheVariants as path
 use Rattle.hb_types.specs.declared.request.Request.TheVariants as request
+use Rattle.hb_types.specs.Groups.{group_of}
 use Rattle.hb_types.specs.Places.{node_of_area}
 use Rattle.hb_model.specs.declared.reply.Reply.{Reply}
 use Rattle.hb_model.specs.declared.reply.Reply.TheVariants as reply
@@ -16,15 +17,15 @@ use Rattle.hb_model.specs.Dictionary.{entry_row}
 use Rattle.hb_model.specs.Shapes.{Hint}
 use Rattle.hb_model.specs.Spots.{ds, entries_space, entry_place, space_in, place_in}
 use Rattle.hb_talk.specs.Ends.{committing, rolling_back}
-use Rattle.hb_talk.specs.Moves.{Mover, Checked, Finish, other, row_there, set, Turned, again, onward, over, after_check, after_commit, after_turn, batch_ends, batch_plan, batch_turn, check, check_ends, check_plan, check_reply, check_with, finish_ends, finish_plan, finish_turn, fresh, hint_in, is_hinted, moved, moving, moving_keys, opened, rolled, setting, turn_by, turn_on, turning}
-use Rattle.hb_talk.specs.Plans.{putting}
+use Rattle.hb_talk.specs.Moves.{Mover, Checked, Finish, other, row_there, set, Turned, again, onward, over, after_check, after_commit, after_turn, batch_ends, batch_plan, batch_turn, check, check_ends, check_plan, check_reply, check_with, finish_ends, finish_plan, finish_turn, fresh, hint_in, is_hinted, moved, moving, moving_keys, opened, rolled, setting, turn_by, turn_on, turn_with, turning}
+use Rattle.hb_talk.specs.Plans.{putting, removing}
 use Rattle.hb_talk.specs.Talk.{Planning, ◌>>=◌, ◌>>◌, pure, says, Talk, Use, lock, scan_group, going_on}
 use Rattle.hb_law.specs.Callers.{begun_count}
 use Rattle.hb_obeys.specs.Obeying.{MoversObey}
 use Rattle.hb_obeys.proofs.Endings.{Counts, committing_obeys, rolling_back_within}
 use Rattle.hb_obeys.proofs.Obeying.{Always, Caller, always_bind, always_weaker, followed, obeys-front, obeys_from}
 use Rattle.hb_obeys.proofs.Opening.{IsNext, opened_obeys}
-use Rattle.hb_obeys.proofs.Planning.{Goes, IsWider, Keeps, keeps_bind, keeps_locked, keeps_pure, keeps_read, keeps_scan_group, keeps_then, keeps_write, plainly, stands_wider, wide_as_it_is, within}
+use Rattle.hb_obeys.proofs.Planning.{Goes, IsWider, Keeps, keeps_bind, keeps_locked, keeps_pure, keeps_read, keeps_scan_group, keeps_then, keeps_write, keeps_writes, plainly, stands_wider, wide_as_it_is, within}
 use Rattle.hb_obeys.proofs.Standing.{Moment, behind}
 use Rattle.hb_obeys.proofs.Statements.{keeps_entry, keeps_group, keeps_table_of}
 
@@ -38,8 +39,8 @@ module _ (w : Caller) (begun : ℕ) where
   keeps_moved : (h : Hint) (key : ℤ) (row : Option (List ℕ)) (n : ℕ) → Keeps w begun [] (moved h key row n)
   keeps_moved h key None n = keeps_pure w begun n
   keeps_moved h key (Some row) n =
-      keeps_then w begun [] _ _ (keeps_write w begun (node_of_area h.new) (record { place = place_in h.new h.table key; row = Some row }))
-      (keeps_then w begun [] _ _ (keeps_write w begun (node_of_area h.old) (record { place = place_in h.old h.table key; row = None })) (keeps_pure w begun (n + 1)))
+      keeps_then w begun [] _ _ (keeps_writes w begun (record { place = place_in h.new h.table key; row = Some row } ∷ []))
+      (keeps_then w begun [] _ _ (keeps_writes w begun (removing (place_in h.old h.table key) ∷ [])) (keeps_pure w begun (n + 1)))
 
   keeps_keys : (h : Hint) (keys : List ℤ) (n : ℕ) → Keeps w begun [] (moving_keys h keys n)
   keeps_keys h [] n = keeps_pure w begun n
@@ -155,13 +156,13 @@ module _ (w : Caller) where
       (planned_obeys w (m.begun + 1) (finish_plan h) (finish_ends owner h) (keeps_finish w (m.begun + 1) h) (finish_closes w (m.begun + 1) owner h) (fresh tx.0)))
       (λ r z. tt)
 
-  keys_obey : (owner : Owner) (h : Hint) (keys : List ℤ) (m : Moment) → IsNext w m.begun owner → Always w (turn_by owner h (answer.Keys keys)) m (AfterTurn (m.begun + 1))
+  keys_obey : (owner : Owner) (h : Hint) (keys : List ℤ) (m : Moment) → IsNext w m.begun owner → Always w (turn_with owner h keys) m (AfterTurn (m.begun + 1))
   keys_obey owner h [] m next = finish_turn_obeys owner h m next
   keys_obey owner h (k ∷ ks) m next = batch_turn_obeys owner h (k ∷ ks) m next
 
   turn_by_obeys : (owner : Owner) (h : Hint) (a : Answer) (m : Moment) → IsNext w m.begun owner → Always w (turn_by owner h a) m (AfterTurn (m.begun + 1))
   turn_by_obeys owner h a m next = elim a as (λ x. Always w (turn_by owner h x) m (AfterTurn (m.begun + 1))) [
-    | answer.Keys keys ↦ keys_obey owner h keys m next
+    | answer.Keys keys ↦ keys_obey owner h (filter (λ key. group_of key == h.group) keys) m next
     | x ↦ tt
   ]
 

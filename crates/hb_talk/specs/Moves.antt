@@ -1,5 +1,5 @@
 -- What pdrbal asks: checks, batches and finishes, each a transaction of its own.
-use Rattle.std.specs.Prelude.{ℕ, zero, suc, ◌+◌, ◌==◌, nat_abs, ℤ, Bool, true, false, ◌&&◌, if◌then◌else◌, List, [], ◌∷◌, ◌++◌, filter_map, Option, Some, None, option_and_then, Result, Ok, Err}
+use Rattle.std.specs.Prelude.{ℕ, zero, suc, ◌+◌, ◌==◌, nat_abs, ℤ, Bool, true, false, ◌&&◌, if◌then◌else◌, List, [], ◌∷◌, ◌++◌, filter, filter_map, Option, Some, None, option_and_then, Result, Ok, Err}
 use Rattle.hb_types.specs.declared.change.Stored.{Stored}
 use Rattle.hb_types.specs.declared.entry.Entry.{Entry}
 use Rattle.hb_types.specs.declared.entry.Entry.TheVariants.{At, Moving}
@@ -11,6 +11,7 @@ use Rattle.hb_types.specs.declared.places.Path.TheVariants as path
 use Rattle.hb_types.specs.declared.answer.Answer.{Answer}
 use Rattle.hb_types.specs.declared.answer.Answer.TheVariants as answer
 use Rattle.hb_types.specs.declared.request.Request.TheVariants as request
+use Rattle.hb_types.specs.Groups.{group_of}
 use Rattle.hb_types.specs.Places.{node_of_area}
 use Rattle.hb_model.specs.declared.reply.Reply.{Reply}
 use Rattle.hb_model.specs.declared.reply.Reply.TheVariants as reply
@@ -19,7 +20,7 @@ use Rattle.hb_model.specs.Shapes.{Hint}
 use Rattle.hb_model.specs.Spots.{ds, dictionary_space, entries_space, entry_place, space_in, place_in}
 use Rattle.hb_model.specs.Told.{entry_of}
 use Rattle.hb_talk.specs.Ends.{fes1, committing, rolling_back}
-use Rattle.hb_talk.specs.Plans.{table_of, entry_under, putting}
+use Rattle.hb_talk.specs.Plans.{table_of, entry_under, putting, removing, writes}
 use Rattle.hb_talk.specs.Talk.{Talk, says, asks, going_on, Planning, ◌>>=◌, ◌>>◌, pure, lock, read, scan_group, write, Use, mgr, refusal_of}
 
 -- a pdrbal line of a session: its table, keys per batch, and turns
@@ -70,12 +71,11 @@ abbrev pub is_hinted : Hint → Option Entry → Bool
 is_hinted h (Some (Moving a b)) = (a == h.old) && (b == h.new)
 is_hinted h _ = false
 
--- the Writes of a key that is there, and what follows with one key more
+-- the Writes of a key that is there, each if it is not too much, and what follows with one key more
 abbrev pub moved : Hint → ℤ → Option (List ℕ) → ℕ → Planning ℕ
 moved h key None n = pure n
 moved h key (Some row) n =
-    write (node_of_area h.new) (record { place = place_in h.new h.table key; row = Some row })
-    >> (write (node_of_area h.old) (record { place = place_in h.old h.table key; row = None }) >> pure (n + 1))
+    writes (record { place = place_in h.new h.table key; row = Some row } ∷ []) >> (writes (removing (place_in h.old h.table key) ∷ []) >> pure (n + 1))
 
 -- the keys left of a batch: each is locked in both areas, and moved where it is there
 abbrev pub moving_keys : Hint → List ℤ → ℕ → Planning ℕ
@@ -142,9 +142,13 @@ abbrev pub finish_turn : Owner → Hint → Result Use Reply → Talk Turned
 finish_turn owner h (Err r) = says (over r)
 finish_turn owner h (Ok u) = going_on (λ p. finish_ends owner h p.0 p.1) (finish_plan h u)
 
+abbrev pub turn_with : Owner → Hint → List ℤ → Talk Turned
+turn_with owner h [] = opened owner (finish_turn owner h)
+turn_with owner h (k ∷ ks) = opened owner (batch_turn owner h (k ∷ ks))
+
+-- of the keys that the old area tells, those of another group are left out
 abbrev pub turn_by : Owner → Hint → Answer → Talk Turned
-turn_by owner h (answer.Keys []) = opened owner (finish_turn owner h)
-turn_by owner h (answer.Keys (k ∷ ks)) = opened owner (batch_turn owner h (k ∷ ks))
+turn_by owner h (answer.Keys keys) = turn_with owner h (filter (λ key. group_of key == h.group) keys)
 turn_by owner h a = says (over (refusal_of (node_of_area h.old) a))
 
 -- one turn on a group: a batch where the old area has keys of it, else a finish
