@@ -12,5 +12,3 @@ pub use goal::{Goal, Got};
 pub use refusing::refusal;
 pub use usage::{Gate, MOST_LOCKS, Usage};
 
-#[cfg(test)]
-mod tests;

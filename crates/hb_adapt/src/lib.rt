@@ -12,5 +12,3 @@ pub use open_gate::OpenGate;
 pub use stdin::Stdin;
 pub use stdout::Stdout;
 
-#[cfg(test)]
-mod tests;

@@ -17,5 +17,3 @@ pub use board::Board;
 pub use laws::{cycles_are_exact, no_cycle_at_first, steps_make_no_cycle};
 pub use waits::{Ready, Waits};
 
-#[cfg(test)]
-mod tests;

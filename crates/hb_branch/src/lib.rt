@@ -10,5 +10,3 @@ mod under;
 
 pub use branch::Branch;
 
-#[cfg(test)]
-mod tests;

@@ -20,5 +20,3 @@ pub use records::decode_record;
 pub use rows::decode_row;
 pub use writing::{encode_change, encode_record, encode_row};
 
-#[cfg(test)]
-mod tests;

@@ -13,5 +13,3 @@ pub use entry::{entry_row, read_entry};
 pub use fault::DictFault;
 pub use table::{TableDef, read_table, table_row};
 
-#[cfg(test)]
-mod tests;

@@ -17,5 +17,3 @@ pub use engine::Engine;
 pub use refusal::Refusal;
 pub use slot::Slot;
 
-#[cfg(test)]
-mod tests;

@@ -11,5 +11,3 @@ mod serving;
 
 pub use front::Front;
 
-#[cfg(test)]
-mod tests;

@@ -9,5 +9,3 @@ mod node;
 
 pub use manager::Manager;
 
-#[cfg(test)]
-mod tests;

@@ -10,5 +10,3 @@ mod steps;
 
 pub use defining::{Defining, Taken};
 
-#[cfg(test)]
-mod tests;

@@ -14,5 +14,3 @@ pub use lying::{Lying, rows_lying};
 pub use sizes::change_size;
 pub use tables::{find_table, table_in_row};
 
-#[cfg(test)]
-mod tests;

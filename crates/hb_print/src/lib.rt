@@ -14,5 +14,3 @@ mod words;
 
 pub use lines::print;
 
-#[cfg(test)]
-mod tests;

@@ -18,5 +18,3 @@ mod turn;
 pub use server::Server;
 pub use state::{Resting, Serving, State};
 
-#[cfg(test)]
-mod tests;

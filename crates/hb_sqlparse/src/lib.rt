@@ -11,5 +11,3 @@ pub use fault::ParseFault;
 pub use laws::{lines_are_plain, lines_are_read, lines_say_one_thing};
 pub use parser::parse;
 
-#[cfg(test)]
-mod tests;

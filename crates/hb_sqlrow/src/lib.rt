@@ -15,5 +15,3 @@ pub use laws::rows_are_narrow;
 pub use points::{key_name, key_of, point, point_key};
 pub use showing::shown;
 
-#[cfg(test)]
-mod tests;

@@ -15,5 +15,3 @@ pub use laws::{places_ascend_within_the_line, tokens_make_up_the_line, words_sta
 pub use lines::tokens;
 pub use token::{Placed, Token, Word};
 
-#[cfg(test)]
-mod tests;

@@ -16,5 +16,3 @@ pub use fault::StepFault;
 pub use seat::Seat;
 pub use sessions::Sessions;
 
-#[cfg(test)]
-mod tests;

@@ -9,8 +9,6 @@ mod real;
 mod refusal;
 mod seating;
 mod starting;
-#[cfg(test)]
-mod tests;
 
 pub use made::{OfDisks, OfLog};
 pub use node::SystemNode;

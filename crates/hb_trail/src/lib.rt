@@ -7,5 +7,3 @@ mod trail;
 
 pub use trail::Trail;
 
-#[cfg(test)]
-mod tests;

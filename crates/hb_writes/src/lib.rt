@@ -6,5 +6,3 @@ mod writing;
 
 pub use writing::{Begun, Taken, Writing, node_of};
 
-#[cfg(test)]
-mod tests;
