@@ -9,4 +9,3 @@ mod merge;
 mod under;
 
 pub use branch::Branch;
-

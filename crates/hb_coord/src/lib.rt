@@ -16,4 +16,3 @@ mod turn;
 
 pub use coordinator::Coordinator;
 pub use state::State;
-

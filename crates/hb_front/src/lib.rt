@@ -10,4 +10,3 @@ mod node;
 mod serving;
 
 pub use front::Front;
-

@@ -8,4 +8,3 @@ mod manager;
 mod node;
 
 pub use manager::Manager;
-

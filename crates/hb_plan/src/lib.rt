@@ -7,4 +7,3 @@ mod stage;
 
 pub use machine::Plan;
 pub use stage::Taken;
-

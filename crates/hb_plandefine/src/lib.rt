@@ -9,4 +9,3 @@ mod stage;
 mod steps;
 
 pub use defining::{Defining, Taken};
-

@@ -8,4 +8,3 @@ mod query_plan;
 
 pub use query::Query;
 pub use query_plan::{QueryPlan, Taken};
-

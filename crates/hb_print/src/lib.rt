@@ -13,4 +13,3 @@ mod records;
 mod words;
 
 pub use lines::print;
-

@@ -17,4 +17,3 @@ mod turn;
 
 pub use server::Server;
 pub use state::{Resting, Serving, State};
-

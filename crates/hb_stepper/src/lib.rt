@@ -15,4 +15,3 @@ pub use counts::BackEnds;
 pub use fault::StepFault;
 pub use seat::Seat;
 pub use sessions::Sessions;
-

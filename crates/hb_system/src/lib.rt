@@ -13,6 +13,5 @@ mod starting;
 pub use made::{OfDisks, OfLog};
 pub use node::SystemNode;
 pub use opening::{Refused, System, open};
-pub use real::{RealNode, close_system, open_system};
 pub use refusal::Refusal;
 pub use seating::close;

@@ -6,4 +6,3 @@
 mod trail;
 
 pub use trail::Trail;
-

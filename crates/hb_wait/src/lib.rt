@@ -8,4 +8,3 @@ mod pending;
 
 pub use laws::waits_follow;
 pub use pending::{Heard, Lock, Pending};
-

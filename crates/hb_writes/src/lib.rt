@@ -5,4 +5,3 @@ mod counting;
 mod writing;
 
 pub use writing::{Begun, Taken, Writing, node_of};
-
