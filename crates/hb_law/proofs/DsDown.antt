@@ -1,6 +1,6 @@
 -- The premises of the law of composition hold of a run in which one session found ds down and rolled back.
-use Rattle.std.proofs.Common.{◌≡◌, ◌⊎◌, ℕ, zero, suc, ◌+◌, false, List, [], ◌∷◌, ◌++◌, Some, None, refl, subst, arith, lit≤, lit<, inl, inr}
-use Rattle.std.specs.Prelude.{codes, slice_get, filter}
+use Rattle.std.proofs.Common.{◌≡◌, ◌⊎◌, ℕ, zero, suc, ◌+◌, true, false, List, [], ◌∷◌, ◌++◌, Some, None, refl, subst, sym, ◌∙◌, arith, lit≤, lit<, inl, inr}
+use Rattle.std.specs.Prelude.{codes, slice_get, filter, flat_map, ◌<◌}
 use Rattle.hb_types.specs.declared.answer.Answer.TheVariants as answer
 use Rattle.hb_types.specs.declared.change.LogItem.{LogItem}
 use Rattle.hb_types.specs.declared.change.LogItem.TheVariants as item
@@ -23,11 +23,13 @@ use Rattle.hb_disks.specs.Disks.{written}
 use Rattle.hb_disks.specs.Images.{Images, Logs, HasItems}
 use Rattle.hb_disks.specs.Logless.{empty_images, empty_logs, empty_server}
 use Rattle.hb_disks.proofs.Empty.{empty_stands_with, empty_items}
-use Rattle.hb_law.specs.Callers.{Obeys, MayEnlist, MayBeDecided}
-use Rattle.hb_law.specs.Composition.{World, Together, NodesRan, CoordinatorRan, ServerRan, lists_of, AllObey, OperatorObeys, ShowsItems, shown_of}
+use Rattle.hb_law.specs.Answering.{IsOfSystem, tells_nothing}
+use Rattle.hb_law.specs.Callers.{Obeys, MayEnlist, MayBeDecided, is_begun}
+use Rattle.hb_runs.specs.Board.{is_managed}
+use Rattle.hb_law.specs.Composition.{World, Together, NodesRan, CoordinatorRan, ServerRan, lists_of, AllObey, OperatorObeys, AllPlaced, ArePlaced, ShowsItems, lines_by, shown_of}
 use Rattle.hb_runs.specs.Coordinator as coordinator
 use Rattle.hb_law.specs.Histories.{Labelled, Merged, Trails, Shown, stands, entries_of, calls_at}
-use Rattle.hb_law.specs.Transactions.{Txn, IsTxnOf, IsRightTxn}
+use Rattle.hb_law.specs.Transactions.{Txn, IsTxnOf, IsRightTxn, IsSomebodys}
 
 -- ---- the world
 
@@ -248,7 +250,18 @@ began_here =
       parts = refl;
       own = refl;
       items = refl;
-      begins = refl;
+      begins =
+          record {
+            before = [];
+            begin = call 0 (request.Begin s1) (answer.Begun t1);
+            more = call 10 (request.Enter t1 s1) answer.Done ∷ call 1 (request.Enlist t1) answer.Down ∷ call 0 (request.Abort t1) answer.Done
+                ∷ call 10 (request.End t1 (record { 0 = 0 })) answer.Done ∷ [];
+            parts = refl;
+            begun = refl;
+            apart = tt;
+            none_before = refl;
+            none_behind = refl;
+          };
       asked = tt;
       counted = refl;
       over = tt;
@@ -269,24 +282,40 @@ faithful =
     }
 
 right : IsRightTxn 1 began
-right = record { right = ((false, faithful), tt); kinds = inl ((tt, tt), lit≤ tt) }
+right =
+    record {
+      right = λ o. ((false, faithful), tt);
+      bound = (
+        (none_decides, (λ asked. (tt, (tt, (tt, (tt, (tt, tt)))))),
+        (record { replied = refl; of_select = λ h. absurd (false≢true h); undone = λ h. inr (inr (inr (inl refl))); sourced = λ asked named. record { shown = tt; written = (tt, (tt, (tt, (tt, (tt, tt))))) } }, tt)),
+        tt
+      );
+      kinds = inl ((tt, tt), lit≤ tt);
+      named = ((tt, tt), tt);
+      begins = tt;
+    }
 
 -- ---- lines
 
-abbrev AllShown : ℕ → List Item → Type 0
-AllShown caller list = Each (λ i. Each (λ l. IsIn l (line ∷ [])) (shown_of caller i)) list
-
 lines_shown : ShowsItems all_lists (line ∷ [])
-lines_shown =
-    record {
-      each_item = each;
-      each_line = ((locks ∷ [], refl, inl (inl refl)), tt);
-    }
+lines_shown = record { same = same; callers = (lit< tt, tt) }
   where
-    each : (caller : ℕ) (list : List Item) → slice_get all_lists caller ≡ Some list → AllShown caller list
-    each zero list h = at_one (AllShown 0) (opens ∷ []) list h (tt, tt)
-    each (suc zero) list h = at_one (AllShown 1) (locks ∷ []) list h ((inl refl, tt), tt)
-    each (suc (suc n)) list h = none_is list h
+    same : (caller : ℕ) (list : List Item) → slice_get all_lists caller ≡ Some list → lines_by caller (line ∷ []) ≡ lines_by caller (flat_map (shown_of caller) list)
+    same zero list h = at_one (λ list. lines_by 0 (line ∷ []) ≡ lines_by 0 (flat_map (shown_of 0) list)) (opens ∷ []) list h refl
+    same (suc zero) list h = at_one (λ list. lines_by 1 (line ∷ []) ≡ lines_by 1 (flat_map (shown_of 1) list)) (locks ∷ []) list h refl
+    same (suc (suc n)) list h = none_is list h
+
+somebodys : (caller : ℕ) (list : List Item) → slice_get all_lists caller ≡ Some list → Each (IsSomebodys (began ∷ []) caller) list
+somebodys zero list h = at_one (Each (IsSomebodys (began ∷ []) 0)) (opens ∷ []) list h (inr (record { asks_none = (refl, tt); tells_none = tt }), tt)
+somebodys (suc zero) list h = at_one (Each (IsSomebodys (began ∷ []) 1)) (locks ∷ []) list h (inl (inl (refl, inl refl)), tt)
+somebodys (suc (suc n)) list h = none_is list h
+
+placed : AllPlaced all_lists
+placed zero list h = at_one (ArePlaced 0 tending) (locks ∷ []) list h (inl (lit< tt), tt)
+placed (suc n) list h = none_is list (subst (λ k. slice_get all_lists k ≡ Some list) (next n) h)
+  where
+    next : (n : ℕ) → suc n + 1 ≡ suc (suc n)
+    next n = omega arith
 
 -- ---- images
 
@@ -297,6 +326,26 @@ fes_items = (
   refl,
 )
 
+-- ---- answers
+
+not_mgr : (n : ℕ) → n < 10 → n ≡ 10 → ⊥
+not_mgr n lt e = omega (arith, lt, e)
+
+-- a call of another node that begins nothing, and one of mgr
+elsewhere : (c : Call) → is_begun c.answer ≡ false → c.node.0 < 10 → is_managed c.request ≡ false → IsOfSystem c
+elsewhere c b lt m = record { begins = λ h. absurd (false≢true (sym b ∙ h)); beside = λ h. elim h [ inl e ↦ absurd (not_mgr c.node.0 lt e) | inr t ↦ absurd (false≢true (sym m ∙ t)) ] }
+
+of_mgr : (c : Call) → is_begun c.answer ≡ false → tells_nothing c.answer ≡ true → IsOfSystem c
+of_mgr c b t = record { begins = λ h. absurd (false≢true (sym b ∙ h)); beside = λ h. t }
+
+all_system : Each (Each IsOfSystem) (lists_of world)
+all_system =
+    ((elsewhere (call 0 request.Start (answer.Started [])) refl (lit< tt) refl, tt),
+    ((record { begins = λ h. (refl, refl); beside = λ h. elim h [ inl e ↦ absurd (not_mgr 0 (lit< tt) e) | inr t ↦ absurd (false≢true t) ] },
+    (of_mgr (call 10 (request.Enter t1 s1) answer.Done) refl refl,
+    (elsewhere (call 1 (request.Enlist t1) answer.Down) refl (lit< tt) refl,
+    (elsewhere (call 0 (request.Abort t1) answer.Done) refl (lit< tt) refl, (of_mgr (call 10 (request.End t1 (record { 0 = 0 })) answer.Done) refl refl, tt))))), tt))
+
 pub ds_down_together : Together written world
 ds_down_together =
     record {
@@ -306,11 +355,14 @@ ds_down_together =
       points = empty_stands_with.points;
       nodes = nodes_ran;
       merged = lists_merged;
+      placed = placed;
       obey = obey;
       operator = operator;
+      system = all_system;
       back_ends_few = (lit≤ tt, lit≤ tt);
-      txns = record { each = (began_here, tt); all = (tt, ((inl refl, tt), tt)) };
+      txns = record { none_left = somebodys; each = (began_here, tt); all = (tt, ((inl refl, tt), tt)) };
       right = (right, tt);
       outcomes = ((tt, tt), (((tt, tt), tt), tt));
+      numbers = ((tt, tt), (((tt, tt), tt), tt));
       shown = lines_shown;
     }

@@ -27,8 +27,7 @@ IsMoment base logs ds = (more : List Decided) × (rest : List Decided) × (ds �
 pub data IsClean (base logs : Logs) (own : List Item) : List Value → Type 0 where
   stood : (ds : List Decided) (s : State) (t : Table) (row : List Value) → IsMoment base logs ds → StateAfter logs ds s → IsIn t s.tables → IsIn row t.rows
       → IsClean base logs own row
-  inserted : (i : Item) (table : List ℕ) (row : List Value) → IsIn i own → i.doing ≡ sql (statement.Insert table row) → i.lines ≡ reply.Inserted ∷ []
-      → IsClean base logs own row
+  inserted : (i : Item) (table : List ℕ) (row : List Value) → IsIn i own → i.doing ≡ sql (statement.Insert table row) → IsClean base logs own row
   made : (i : Item) (table : List ℕ) (sets : List Set) (pred : Option Pred) (t : Table) (row : List Value) → IsClean base logs own row → IsIn i own
       → i.doing ≡ sql (statement.Update table sets pred) → IsClean base logs own (assigned t sets row)
 
@@ -36,8 +35,10 @@ pub data IsClean (base logs : Logs) (own : List Item) : List Value → Type 0 wh
 abbrev pub IsCleanly : Logs → Logs → List Item → List Value → Type 0
 IsCleanly base logs own shown = (row : List Value) × (positions : List ℕ) × IsClean base logs own row × IsSelection row positions shown
 
+-- a SELECT alone shows rows
 abbrev pub RowsClean : Logs → Logs → List Item → Doing → Reply → Type 0
 RowsClean base logs own (sql (statement.Select w table pred)) (reply.Rows rows) = IsTrue (shows_rows w) → Each (IsCleanly base logs own) rows
+RowsClean base logs own _ (reply.Rows rows) = ⊥
 RowsClean base logs own _ _ = ⊤
 
 -- each row that a transaction showed is clean, behind its own statements

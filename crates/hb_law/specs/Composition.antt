@@ -1,11 +1,11 @@
 -- The law of composition: what nodes and callers do gives disks that stand for a system and explain what was shown.
-use Rattle.std.specs.Prelude.{◌≡◌, ℕ, ◌+◌, ◌≤◌, List, ◌++◌, map, length, Some, slice_get}
+use Rattle.std.specs.Prelude.{◌≡◌, ℕ, ◌+◌, ◌≤◌, ◌<◌, ◌==◌, ◌⊎◌, Bool, true, false, not, ◌&&◌, List, [], ◌∷◌, ◌++◌, filter, flat_map, map, length, Some, slice_get, ⊤}
 use Rattle.hb_types.specs.declared.change.LogItem.{LogItem}
 use Rattle.hb_types.specs.declared.trail.Call.{Call}
 use Rattle.hb_types.specs.Lists.{Each, Has, IsIn}
 use Rattle.hb_model.specs.declared.reply.Reply.{Reply}
 use Rattle.hb_model.specs.declared.reply.Reply.TheVariants as reply
-use Rattle.hb_model.specs.Items.{Item, turn, calls_of}
+use Rattle.hb_model.specs.Items.{Item, Doing, tending, turn, calls_of}
 use Rattle.hb_model.specs.State.{State}
 use Rattle.hb_disks.specs.Balanced.{Balanced}
 use Rattle.hb_disks.specs.Images.{Images, Logs, ReadAs, family_below}
@@ -16,10 +16,12 @@ use Rattle.hb_disks.specs.StandsFor.{StandsWith, HaveBases, back_ends}
 use Rattle.hb_runs.specs.ServerRuns as server
 use Rattle.hb_runs.specs.Server as server_state
 use Rattle.hb_runs.specs.Coordinator as coordinator
+use Rattle.hb_law.specs.Answering.{IsOfSystem}
 use Rattle.hb_law.specs.Callers.{Obeys}
 use Rattle.hb_law.specs.Explained.{Explained, ExplainedApart}
 use Rattle.hb_law.specs.Histories.{Trails, Labelled, Event, Shown, asked_of, Merged, History}
-use Rattle.hb_law.specs.Transactions.{Txn, AreTxns, IsRightTxn, OutcomesTold}
+use Rattle.hb_law.specs.InTime.{InItsOrder, is_busy}
+use Rattle.hb_law.specs.Transactions.{Txn, AreTxns, IsRightTxn, IsTurning, OutcomesTold, ShowsAnswered}
 use Rattle.hb_disks.specs.Redo.{Decided}
 
 -- what is told of a run: the disks at its start and at one moment, the trails, and the callers' lists with their transactions and lines
@@ -59,10 +61,38 @@ pub record NodesRan (base logs : Logs) (trails : Trails) : Type 0 where
 abbrev pub shown_of : ℕ → Item → List Shown
 shown_of caller i = map (λ r. record { caller = caller; place = i.place; reply = r }) i.lines
 
--- each line of an item was shown, and each line shown is an item's
+-- a caller's lines, but BUSY, which is shown while another work goes on
+abbrev pub lines_by : ℕ → List Shown → List Shown
+lines_by caller lines = filter (λ l. (l.caller == caller) && not (is_busy l.reply)) lines
+
+-- the lines of each caller are those of its items, each once and in order
 pub record ShowsItems (lists : List (List Item)) (lines : List Shown) : Type 0 where
-  pub each_item : (caller : ℕ) (list : List Item) → slice_get lists caller ≡ Some list → Each (λ i. Each (λ l. IsIn l lines) (shown_of caller i)) list
-  pub each_line : Each (λ l. (list : List Item) × (slice_get lists l.caller ≡ Some list) × Has (λ i. IsIn l (shown_of l.caller i)) list) lines
+  pub same : (caller : ℕ) (list : List Item) → slice_get lists caller ≡ Some list → lines_by caller lines ≡ lines_by caller (flat_map (shown_of caller) list)
+  pub callers : Each (λ l. l.caller < length lists) lines
+
+-- the place and the doing of the last work, which an item of no work leaves
+abbrev pub place_behind : ℕ → Item → ℕ
+place_behind last i = of i.doing
+  where
+    of : Doing → ℕ
+    of tending = last
+    of doing = i.place
+
+abbrev pub doing_behind : Doing → Doing → Doing
+doing_behind before tending = before
+doing_behind before doing = doing
+
+abbrev pub IsPlaced : ℕ → Doing → ℕ → Doing → Type 0
+IsPlaced last before place tending = ⊤
+IsPlaced last before place doing = (last < place) ⊎ ((last ≡ place) × (before ≡ doing) × IsTurning doing)
+
+-- the places of a session's works ascend; items of one place are turns of one work
+abbrev pub ArePlaced : ℕ → Doing → List Item → Type 0
+ArePlaced last before [] = ⊤
+ArePlaced last before (i ∷ is) = IsPlaced last before i.place i.doing × ArePlaced (place_behind last i) (doing_behind before i.doing) is
+
+abbrev pub AllPlaced : List (List Item) → Type 0
+AllPlaced lists = (caller : ℕ) (list : List Item) → slice_get lists (caller + 1) ≡ Some list → ArePlaced 0 tending list
 
 abbrev pub lists_of : World → List (List Call)
 lists_of w = map calls_of w.lists
@@ -84,12 +114,15 @@ pub record Together (format : Format) (w : World) : Type 0 where
   pub points : HaveBases format w.images.servers w.logs.servers
   pub nodes : NodesRan w.base w.logs w.trails
   pub merged : Merged w.trails (lists_of w)
+  pub placed : AllPlaced w.lists
   pub obey : AllObey (lists_of w)
   pub operator : OperatorObeys (lists_of w)
+  pub system : Each (Each IsOfSystem) (lists_of w)
   pub back_ends_few : (2 ≤ length w.base.servers) × (length w.base.servers ≤ 9)
   pub txns : AreTxns w.lists w.txns
   pub right : Each (IsRightTxn (back_ends w.base)) w.txns
   pub outcomes : Each (OutcomesTold w.txns) w.lists
+  pub numbers : Each (Each ShowsAnswered) w.lists
   pub shown : ShowsItems w.lists w.lines
 
 -- ---- the law
@@ -110,7 +143,7 @@ composition format =
     (w : World) → Together format w
     → ((s : State) × StandsWith format w.images w.logs s) × ((further : List Decided) × ExplainedApart w.base w.logs w.txns w.lines further) × BalancedAtCompletes w
 
--- of one thread of steps: a history of the same trails, lists and lines gives the order too
+-- of one thread of steps: a history of the same trails, lists and lines, in which each caller did its items in their order, gives the order too
 abbrev pub composition_run : Format → Type 0
 composition_run format =
-    (w : World) (h : List Event) → Together format w → History h w.trails (lists_of w) w.lines → Explained w.base w.logs w.txns h w.lines
+    (w : World) (h : List Event) → Together format w → History h w.trails (lists_of w) w.lines → InItsOrder h w.lists → Explained w.base w.logs w.txns h w.lines

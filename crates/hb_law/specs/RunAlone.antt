@@ -1,6 +1,7 @@
 -- Run alone: each decision is a step of its transaction from the state before it.
 use Rattle.std.specs.Prelude.{◌≡◌, ℕ, ℤ, ◌≤◌, Bool, not, ◌⊎◌, IsTrue, List, [], ◌∷◌, ◌++◌, length, filter_map, Option, Some, None, MatchOption, slice_get, slice_set, ⊤}
 use Rattle.std.specs.List.{list_any, zip}
+use Rattle.std.specs.Ordering.{int_eq}
 use Rattle.hb_types.specs.declared.entry.Entry.TheVariants.{At, Moving}
 use Rattle.hb_types.specs.declared.places.Place.{Place}
 use Rattle.hb_types.specs.Groups.{group_of, is_moving}
@@ -18,6 +19,7 @@ use Rattle.hb_model.specs.Needs.{MayBeFull}
 use Rattle.hb_model.specs.Spots.{place_in}
 use Rattle.hb_model.specs.State.{State, Spread, spread_named}
 use Rattle.hb_model.specs.Families.{Family}
+use Rattle.hb_model.specs.Valid.{AllApart}
 use Rattle.hb_disks.specs.Images.{Logs, family}
 use Rattle.hb_disks.specs.Redo.{Decided}
 use Rattle.hb_disks.specs.StandsFor.{back_ends, StateAfter}
@@ -71,8 +73,9 @@ pub record MovesKey (table old new : ℕ) (f g : Family) (key : ℤ) : Type 0 wh
   pub free : lookup (place_in new table key) (rows_of (node_of_area new) f) ≡ None
   pub come : lookup (place_in new table key) (rows_of (node_of_area new) g) ≡ Some row
 
--- these keys of a group moved, and nothing else changed at any node
+-- these keys of a group, no two alike, moved, and nothing else changed at any node
 pub record MovesRows (table group old new : ℕ) (f g : Family) (keys : List ℤ) : Type 0 where
+  pub apart : AllApart int_eq keys
   pub moved : Each (MovesKey table old new f g) keys
   pub of_group : Each (λ k. group_of k ≡ group) keys
   pub same : (node : ℕ) (p : Place) → ¬ (Has (λ k. (p ≡ place_in old table k) ⊎ (p ≡ place_in new table k)) keys)

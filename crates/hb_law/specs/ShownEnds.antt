@@ -1,6 +1,6 @@
 -- Decided and shown: which decisions there are, and what lines tell of the ends of transactions.
-use Rattle.std.specs.Prelude.{◌≡◌, ◌≢◌, ℕ, IsTrue, List, [], ◌∷◌, ◌++◌, Option, Some, None, MatchOption, ⊤}
-use Rattle.hb_types.specs.Lists.{Each, Has}
+use Rattle.std.specs.Prelude.{◌≡◌, ◌≢◌, ℕ, ◌||◌, ◌⊎◌, IsTrue, List, [], ◌∷◌, ◌++◌, Option, Some, None, MatchOption, ⊤}
+use Rattle.hb_types.specs.Lists.{Each, Has, IsIn}
 use Rattle.hb_model.specs.declared.reply.Reply.{Reply}
 use Rattle.hb_model.specs.declared.reply.Reply.TheVariants as reply
 use Rattle.hb_model.specs.declared.statement.Statement.TheVariants as statement
@@ -9,7 +9,7 @@ use Rattle.hb_model.specs.Outside.{says_undone}
 use Rattle.hb_disks.specs.Images.{Logs, decided}
 use Rattle.hb_disks.specs.Redo.{Decided}
 use Rattle.hb_law.specs.Histories.{Shown}
-use Rattle.hb_law.specs.Transactions.{Txn, OwnersApart, reply_in}
+use Rattle.hb_law.specs.Transactions.{Txn, OwnersApart, NamesItself, caller_of, is_loose, is_told, reply_in}
 
 -- ---- words
 
@@ -63,10 +63,10 @@ EndsAs logs tx d r = StatementEnds logs tx r
 abbrev pub ItemEnds : Logs → ℕ → Item → Type 0
 ItemEnds logs tx i = Each (EndsAs logs tx i.doing) i.lines
 
--- what a line without a session tells of an owner is so
+-- what a line without a session tells of an owner is so, and there is that owner
 abbrev pub ToldRightly : Logs → List Txn → Reply → Type 0
-ToldRightly logs txns (reply.ToldCommitted o number) = Each (λ t. t.owner ≡ o → IsDecidedAs logs t.tx number.0) txns
-ToldRightly logs txns (reply.ToldRolledBack o) = Each (λ t. t.owner ≡ o → IsUndecided logs t.tx) txns
+ToldRightly logs txns (reply.ToldCommitted o number) = Has (λ t. (t.owner ≡ o) × IsDecidedAs logs t.tx number.0) txns
+ToldRightly logs txns (reply.ToldRolledBack o) = Has (λ t. (t.owner ≡ o) × IsUndecided logs t.tx) txns
 ToldRightly logs txns _ = ⊤
 
 -- the COMMIT of a decided transaction of statements is shown committed, or has no line, or its outcome is unknown
@@ -81,7 +81,17 @@ EndsOpenly n (sql statement.Commit) lines = IsShownOrOpen n (reply_in lines)
 EndsOpenly n (turn table most) lines = ⊤
 EndsOpenly n _ lines = ⊥
 
+-- a line is one of a transaction's
+abbrev pub IsOfTxn : List Txn → Shown → Type 0
+IsOfTxn txns l = Has (λ t. (caller_of t.owner ≡ l.caller) × Has (λ i. (i.place ≡ l.place) × IsIn l.reply i.lines) t.items) txns
+
+-- each line is a transaction's, or tells only that nothing was done, or what became of one
+abbrev pub AllJudged : List Txn → List Shown → Type 0
+AllJudged txns lines = Each (λ l. IsOfTxn txns l ⊎ IsTrue (is_loose l.reply || is_told l.reply)) lines
+
 pub record ShowsEnds (logs : Logs) (txns : List Txn) (lines : List Shown) (further : List Decided) : Type 0 where
+  pub judged : AllJudged txns lines
+  pub named : Each NamesItself txns
   pub ended : Each (λ t. Each (ItemEnds logs t.tx) t.items) txns
   pub told : Each (λ l. ToldRightly logs txns l.reply) lines
   pub open_or_shown : Each (λ d. Each (λ t. t.tx ≡ d.tx → MatchOption (last_item t.items) ⊥ (λ i. EndsOpenly d.number i.doing i.lines)) txns) further

@@ -1,5 +1,5 @@
 -- Turns of pdrbal: what the calls and lines of a check, a batch and a finish are.
-use Rattle.std.specs.Prelude.{◌≡◌, ℕ, ◌≤◌, Bool, true, false, not, IsTrue, List, count_by, filter_map, is_some, map, Some, option_map}
+use Rattle.std.specs.Prelude.{◌≡◌, ℕ, ◌≤◌, Bool, true, false, not, IsTrue, List, ◌∷◌, ◌++◌, count_by, filter_map, is_some, map, Some, option_map}
 use Rattle.std.specs.List.{list_any}
 use Rattle.hb_types.specs.declared.answer.Answer.TheVariants as answer
 use Rattle.hb_types.specs.declared.change.Stored.{Stored}
@@ -7,8 +7,8 @@ use Rattle.hb_types.specs.declared.entry.Entry.TheVariants.{Moving}
 use Rattle.hb_types.specs.declared.names.Tx.{Tx}
 use Rattle.hb_types.specs.declared.request.Request.TheVariants as request
 use Rattle.hb_types.specs.declared.trail.Call.{Call}
-use Rattle.hb_types.specs.Groups.{is_moving}
-use Rattle.hb_types.specs.Lists.{Each, Has, IsIn}
+use Rattle.hb_types.specs.Groups.{group_of, is_moving}
+use Rattle.hb_types.specs.Lists.{Each, Has}
 use Rattle.hb_types.specs.Places.{node_of_area}
 use Rattle.hb_types.specs.Rows.{row_bytes}
 use Rattle.hb_model.specs.declared.reply.Reply.{Reply}
@@ -43,10 +43,11 @@ pub record WasCheck (place : ℕ) (table : List ℕ) (most number : ℕ) (i : It
   pub told : IsNumberTold names table number
   pub decided : WasDecided n i.calls
 
--- the keys of a batch are those that the old area's node told, at most so many having been asked for
+-- the keys of a batch are those that the old area's node told before a decision was asked for, at most so many having been asked for
 abbrev pub AreHintedKeys : Hint → ℕ → List Keyed → List Call → Type 0
 AreHintedKeys h most keys calls =
-    IsIn (call (node_of_area h.old) (request.GroupKeys (space_in h.old h.table) h.group most) (answer.Keys (map (λ k. k.0) keys))) calls
+    (front : List Call) × (back : List Call) × (¬ (HasAsked is_decide front))
+    × (calls ≡ front ++ call (node_of_area h.old) (request.GroupKeys (space_in h.old h.table) h.group most) (answer.Keys (map (λ k. k.0) keys)) ∷ back)
 
 -- the row of the hinted entry tells that entry, as it does where both areas are numbers of areas
 abbrev pub TellsItself : Hint → Type 0
@@ -68,7 +69,7 @@ pub data IsTurn (before : List Item) (place : ℕ) (table : List ℕ) (most : �
   check : (tx : Tx) (number : ℕ) (names entries : List Stored) → of_rows calls ≡ check_calls tx number names entries → IsNumberTold names table number
       → LocksAmong (check_locks number) calls → IsTurn before place table most calls (checked entries)
   batch : (tx : Tx) (h : Hint) (keys : List Keyed) → TellsItself h → of_rows calls ≡ batch_calls tx h keys → AreHintedKeys h most keys calls
-      → Has (WasCheck place table most h.table) before → LocksAmong (batch_locks h.table h.group h.old h.new (map (λ k. k.0) keys)) calls
+      → Each (λ k. group_of k.0 ≡ h.group) keys → Has (WasCheck place table most h.table) before → LocksAmong (batch_locks h.table h.group h.old h.new (map (λ k. k.0) keys)) calls
       → IsTurn before place table most calls (moved h.group (found_in keys))
   finish : (tx : Tx) (h : Hint) → TellsItself h → of_rows calls ≡ finish_calls tx h → Has (WasCheck place table most h.table) before
       → LocksAmong (finish_locks h.table h.group h.old) calls → IsTurn before place table most calls finished
