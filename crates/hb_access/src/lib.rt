@@ -11,6 +11,3 @@ pub use access::{Access, Next, Taken};
 pub use goal::{Goal, Got};
 pub use refusing::refusal;
 pub use usage::{Gate, MOST_LOCKS, Usage};
-
-#[cfg(test)]
-mod tests;

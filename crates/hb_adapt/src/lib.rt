@@ -11,6 +11,3 @@ pub use file_disk::FileDisk;
 pub use open_gate::OpenGate;
 pub use stdin::Stdin;
 pub use stdout::Stdout;
-
-#[cfg(test)]
-mod tests;

@@ -16,6 +16,3 @@ mod waits;
 pub use board::Board;
 pub use laws::{cycles_are_exact, no_cycle_at_first, steps_make_no_cycle};
 pub use waits::{Ready, Waits};
-
-#[cfg(test)]
-mod tests;

@@ -85,12 +85,6 @@ impl Branch {
         &self.list
     }
 
-    pub fn into_changes(self) -> Items<Change>
-        ensures { result ≡ self.changes }
-    {
-        Items::from_vec(self.into_list())
-    }
-
     /// The changes by ascending place, each to be taken in turn.
     pub fn into_list(self) -> Vec<Change>
         ensures { result.items ≡ self.changes }

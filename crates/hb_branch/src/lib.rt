@@ -9,6 +9,3 @@ mod merge;
 mod under;
 
 pub use branch::Branch;
-
-#[cfg(test)]
-mod tests;

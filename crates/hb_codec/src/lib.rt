@@ -19,6 +19,3 @@ pub use laws::{changes_have_one_form, records_have_one_form, rows_have_one_form}
 pub use records::decode_record;
 pub use rows::decode_row;
 pub use writing::{encode_change, encode_record, encode_row};
-
-#[cfg(test)]
-mod tests;

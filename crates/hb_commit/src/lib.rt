@@ -8,8 +8,6 @@ mod driver;
 mod outcome;
 mod settling;
 mod stage;
-#[cfg(test)]
-mod tests;
 
 pub use driver::{Driver, Step};
 pub use outcome::Outcome;

@@ -2,12 +2,8 @@
 #![tactic(auto)]
 
 mod console;
-#[cfg(test)]
-mod places_tests;
 mod system;
 mod telling;
-#[cfg(test)]
-mod tests;
 
 pub use console::console_run;
 pub use system::Ended;

@@ -16,6 +16,3 @@ mod turn;
 
 pub use coordinator::Coordinator;
 pub use state::State;
-
-#[cfg(test)]
-mod tests;

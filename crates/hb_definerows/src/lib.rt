@@ -20,6 +20,3 @@ pub use create_table::{
 };
 pub use members::{read_entries, read_members};
 pub use tables::{Found, read_tables};
-
-#[cfg(test)]
-mod tests;

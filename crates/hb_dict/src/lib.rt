@@ -12,6 +12,3 @@ pub use area::{AreaDef, area_row, member_row, read_area, read_member};
 pub use entry::{entry_row, read_entry};
 pub use fault::DictFault;
 pub use table::{TableDef, read_table, table_row};
-
-#[cfg(test)]
-mod tests;

@@ -8,8 +8,6 @@ mod fused;
 mod gate;
 mod sink;
 mod source;
-#[cfg(test)]
-mod tests;
 
 pub use clock::Clock;
 pub use disk::Disk;

@@ -12,6 +12,3 @@ mod updates;
 pub use early::{early_select, early_update};
 pub use ending::{Ending, delete_ending, select_ending, update_ending};
 pub use inserting::insert_ending;
-
-#[cfg(test)]
-mod tests;

@@ -16,6 +16,3 @@ pub use ends::Standing;
 pub use engine::Engine;
 pub use refusal::Refusal;
 pub use slot::Slot;
-
-#[cfg(test)]
-mod tests;

@@ -10,6 +10,3 @@ mod node;
 mod serving;
 
 pub use front::Front;
-
-#[cfg(test)]
-mod tests;

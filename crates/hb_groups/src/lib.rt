@@ -8,6 +8,3 @@ mod laws;
 pub use assignment::{first_assignment, quota, reassign};
 pub use group::{group_of, route};
 pub use laws::{even_share_is_enough, first_entries_are_even, quota_is_even};
-
-#[cfg(test)]
-mod tests;

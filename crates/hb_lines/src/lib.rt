@@ -8,8 +8,6 @@ mod laws;
 mod line;
 mod reader;
 mod said;
-#[cfg(test)]
-mod tests;
 
 pub use fault::LineFault;
 pub use laws::{first_line, last_line, no_feed, one_thing};

@@ -12,6 +12,3 @@ mod take;
 
 pub use lock_table::LockTable;
 pub use take::Take;
-
-#[cfg(test)]
-mod tests;

@@ -7,8 +7,6 @@ mod force;
 mod laws;
 mod log;
 mod start;
-#[cfg(test)]
-mod tests;
 mod walk;
 
 pub use fault::LogFault;

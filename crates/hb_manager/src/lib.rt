@@ -8,6 +8,3 @@ mod manager;
 mod node;
 
 pub use manager::Manager;
-
-#[cfg(test)]
-mod tests;

@@ -6,8 +6,6 @@ mod memdisk;
 mod replay;
 mod sink;
 mod source;
-#[cfg(test)]
-mod tests;
 
 pub use memdisk::MemDisk;
 pub use sink::MemSink;

@@ -1,14 +1,17 @@
 -- What the calls of a batch's keys do: the rows of those that had one are moved.
-use Rattle.std.proofs.Common.{◌≡◌, inl, inr, ◌⊎◌, ℕ, ℤ, List, [], ◌∷◌, Some, None, refl, sym, ap, ◌∙◌}
-use Rattle.std.specs.Prelude.{slice_get}
+use Rattle.std.proofs.Common.{◌≡◌, inl, inr, ◌⊎◌, ℕ, ℤ, List, [], ◌∷◌, Some, None, Bool, true, false, not, refl, subst, sym, ap, ◌∙◌}
+use Rattle.std.specs.Prelude.{slice_get, ◌||◌, IsTrue}
+use Rattle.std.specs.List.{list_any}
+use Rattle.std.specs.Ordering.{int_eq}
 use Rattle.hb_types.specs.declared.entry.Entry.TheVariants.{Moving}
 use Rattle.hb_types.specs.declared.names.Tx.{Tx}
 use Rattle.hb_types.specs.declared.places.Place.{Place}
 use Rattle.hb_types.specs.Groups.{group_of}
-use Rattle.hb_types.specs.Lists.{Each, Has, IsIn}
+use Rattle.hb_types.specs.Lists.{Each, Has, IsIn, has_twins}
 use Rattle.hb_types.specs.Places.{node_of_area}
 use Rattle.hb_types.specs.Put.{lookup}
 use Rattle.hb_types.proofs.Ascending.{Each-in, in_Each}
+use Rattle.hb_types.proofs.SamePlace.{int_eq-true}
 use Rattle.hb_model.specs.declared.table.Table.{Table}
 use Rattle.hb_model.specs.Answers.{AnswersOf, afters, rows_of}
 use Rattle.hb_model.specs.Families.{Family}
@@ -17,13 +20,27 @@ use Rattle.hb_model.specs.Spots.{place_in}
 use Rattle.hb_model.specs.State.{State, Spread}
 use Rattle.hb_model.specs.System.{Sys}
 use Rattle.hb_model.specs.TableRows.{TableRows, standing}
+use Rattle.hb_model.specs.Valid.{AllApart}
 use Rattle.hb_law.specs.RunAlone.{MovesKey, MovesRows}
+use Rattle.hb_planlaws.proofs.Named.{all_twins_more}
 use Rattle.hb_planwrites.proofs.KeyWrites.{IsBackEnd, entry_apart, route_on_back_ends}
 use Rattle.hb_movelaws.specs.Moving.{keys_found}
 use Rattle.hb_movelaws.proofs.KeyMove as key_move
 
 some_none : {A : Type 0} (x : A) → Some x ≡ None → ⊥
 some_none x e = cc
+
+-- a key that is none of these is like none of them
+like_none : (key : ℤ) (keys : List ℤ) → ((j : ℤ) → IsIn j keys → j ≡ key → ⊥) → list_any (int_eq key) keys ≡ false
+like_none key [] n = refl
+like_none key (k ∷ keys) n = by (int_eq key k) refl (like_none key keys (λ j i. n j (inr i)))
+  where
+    by : (b : Bool) → int_eq key k ≡ b → list_any (int_eq key) keys ≡ false → b || list_any (int_eq key) keys ≡ false
+    by true e rest = absurd (n k (inl refl) (sym (int_eq-true key k e)))
+    by false e rest = rest
+
+apart_first : (key : ℤ) (keys : List ℤ) → ((j : ℤ) → IsIn j keys → j ≡ key → ⊥) → AllApart int_eq keys → AllApart int_eq (key ∷ keys)
+apart_first key keys n apart = subst (λ b. IsTrue (not b)) (sym (all_twins_more int_eq key keys ∙ ap (λ b. b || has_twins int_eq keys) (like_none key keys n))) apart
 
 -- ---- one key before others
 
@@ -48,7 +65,7 @@ module _ (number group old new : ℕ) (apart : old ≡ new → ⊥) where
   untouched key a (k ∷ keys) n (inr h) = untouched key a keys (λ j i. n j (inr i)) h
 
   nothing_moved : (f : Family) → MovesRows number group old new f f []
-  nothing_moved f = record { moved = tt; of_group = tt; same = λ node q n. refl }
+  nothing_moved f = record { apart = refl; moved = tt; of_group = tt; same = λ node q n. refl }
 
   module _ (f m g : Family) (key : ℤ) (keys : List ℤ) (row : List ℕ) (of : group_of key ≡ group)
       (stood : lookup (from key) (rows_of (node_of_area old) f) ≡ Some row) (free : lookup (to key) (rows_of (node_of_area new) f) ≡ None)
@@ -87,6 +104,7 @@ module _ (number group old new : ℕ) (apart : old ≡ new → ⊥) where
 
     one_more : MovesRows number group old new f g (key ∷ keys)
     one_more = record {
+      apart = apart_first key keys others rest.apart;
       moved = (first, Each-in (MovesKey number old new f g) keys later);
       of_group = (of, rest.of_group);
       same = λ node q n. sym (elsewhere node q (λ e. n (inl (inl e))) (λ e. n (inl (inr e)))) ∙ rest.same node q (λ h. n (inr h));

@@ -2,7 +2,5 @@
 #![tactic(auto)]
 
 mod sets;
-#[cfg(test)]
-mod tests;
 
 pub use sets::{first_from, has, with};

@@ -7,12 +7,3 @@ mod stage;
 
 pub use machine::Plan;
 pub use stage::Taken;
-
-#[cfg(test)]
-mod asking;
-#[cfg(test)]
-mod joining;
-#[cfg(test)]
-mod statements;
-#[cfg(test)]
-mod tests;

@@ -9,6 +9,3 @@ mod stage;
 mod steps;
 
 pub use defining::{Defining, Taken};
-
-#[cfg(test)]
-mod tests;

@@ -13,6 +13,3 @@ pub use inserts::{insert_refusal, inserted_key, inserted_row};
 pub use lying::{Lying, rows_lying};
 pub use sizes::change_size;
 pub use tables::{find_table, table_in_row};
-
-#[cfg(test)]
-mod tests;

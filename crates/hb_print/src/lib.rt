@@ -13,6 +13,3 @@ mod records;
 mod words;
 
 pub use lines::print;
-
-#[cfg(test)]
-mod tests;

@@ -2,7 +2,5 @@
 #![tactic(auto)]
 
 mod reach;
-#[cfg(test)]
-mod tests;
 
 pub use reach::{MANAGER, Reach, nodes_stay};

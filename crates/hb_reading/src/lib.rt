@@ -7,6 +7,3 @@ mod routing;
 
 pub use aim::Aim;
 pub use reading::{Brought, Reading, Taken};
-
-#[cfg(test)]
-mod tests;

@@ -9,6 +9,3 @@ mod sweep;
 pub use laws::{locking_is_a_round, scanning_is_a_round, walking_is_a_round};
 pub use round::{Round, Taken};
 pub use sweep::{Sweep, Swept};
-
-#[cfg(test)]
-mod tests;

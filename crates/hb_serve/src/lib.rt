@@ -5,8 +5,6 @@ mod doing;
 mod giving;
 mod own;
 mod stepping;
-#[cfg(test)]
-mod tests;
 
 pub use doing::do_line;
 pub use own::Own;

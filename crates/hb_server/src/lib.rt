@@ -17,6 +17,3 @@ mod turn;
 
 pub use server::Server;
 pub use state::{Resting, Serving, State};
-
-#[cfg(test)]
-mod tests;

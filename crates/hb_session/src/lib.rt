@@ -7,8 +7,6 @@ mod session;
 mod stage;
 mod starting;
 mod stepping;
-#[cfg(test)]
-mod tests;
 
 pub use laws::{ends_follow, runs_follow, transactions_follow};
 pub use session::{GiveFault, Progress, Session};

@@ -8,6 +8,3 @@ mod selects;
 pub use kinds::{Kind, is_typed, kind_of};
 pub use names::{expr_has_unknown, is_unknown, pred_has_unknown};
 pub use selects::{has_kind, select_check, where_has_unknown, where_is_typed};
-
-#[cfg(test)]
-mod tests;

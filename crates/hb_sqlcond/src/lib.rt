@@ -11,6 +11,3 @@ mod stack;
 pub use expr_parser::ExprParser;
 pub use laws::{conditions_are_read, expressions_are_read};
 pub use pred_parser::PredParser;
-
-#[cfg(test)]
-mod tests;

@@ -12,6 +12,3 @@ pub use conditions::holds;
 pub use expressions::{place_of, value, value_ref};
 pub use fault::{ExprFault, Overflow};
 pub use laws::overflow_is_a_number_outside;
-
-#[cfg(test)]
-mod tests;

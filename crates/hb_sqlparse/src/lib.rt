@@ -10,6 +10,3 @@ mod queue;
 pub use fault::ParseFault;
 pub use laws::{lines_are_plain, lines_are_read, lines_say_one_thing};
 pub use parser::parse;
-
-#[cfg(test)]
-mod tests;

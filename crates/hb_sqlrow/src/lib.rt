@@ -14,6 +14,3 @@ pub use fault::SetFault;
 pub use laws::rows_are_narrow;
 pub use points::{key_name, key_of, point, point_key};
 pub use showing::shown;
-
-#[cfg(test)]
-mod tests;

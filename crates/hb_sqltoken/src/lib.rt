@@ -14,6 +14,3 @@ mod words;
 pub use laws::{places_ascend_within_the_line, tokens_make_up_the_line, words_stand_in_any_case};
 pub use lines::tokens;
 pub use token::{Placed, Token, Word};
-
-#[cfg(test)]
-mod tests;

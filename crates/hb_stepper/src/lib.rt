@@ -15,6 +15,3 @@ pub use counts::BackEnds;
 pub use fault::StepFault;
 pub use seat::Seat;
 pub use sessions::Sessions;
-
-#[cfg(test)]
-mod tests;

@@ -9,12 +9,9 @@ mod real;
 mod refusal;
 mod seating;
 mod starting;
-#[cfg(test)]
-mod tests;
 
 pub use made::{OfDisks, OfLog};
 pub use node::SystemNode;
 pub use opening::{Refused, System, open};
-pub use real::{RealNode, close_system, open_system};
 pub use refusal::Refusal;
 pub use seating::close;

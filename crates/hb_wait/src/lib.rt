@@ -8,6 +8,3 @@ mod pending;
 
 pub use laws::waits_follow;
 pub use pending::{Heard, Lock, Pending};
-
-#[cfg(test)]
-mod tests;

@@ -20,12 +20,6 @@ mod opened;
 mod place;
 mod rooms;
 mod slots;
-#[cfg(test)]
-mod tests;
-#[cfg(test)]
-mod tests_against_list;
-#[cfg(test)]
-mod tests_of_points;
 mod valid;
 mod whole;
 

@@ -5,6 +5,3 @@ mod counting;
 mod writing;
 
 pub use writing::{Begun, Taken, Writing, node_of};
-
-#[cfg(test)]
-mod tests;

@@ -1,7 +1,0 @@
-use Rattle.std.proofs.Common.{◌≡◌, true}
-use Rattle.hb_plan.specs.Planned.{is_asking}
-use Rattle.hb_plan.proofs.asking.run_on.Given as goal
-
--- there is more to be asked
-abbrev pub invariant-loop-step : goal.invariant-loop-step
-invariant-loop-step l = is_asking l.plan ≡ true
