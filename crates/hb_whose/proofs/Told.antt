@@ -106,7 +106,7 @@ refuses_decide false s tx votes answer.Down = inl refl
 refuses_decide false s tx votes a = inr (λ h. h)
 
 -- of fes1 alone
-abbrev IsForFes : Request → Type 0
+abbrev pub IsForFes : Request → Type 0
 IsForFes (request.Outcome tx) = Unit {0}
 IsForFes (request.Decide tx votes) = Unit {0}
 IsForFes _ = ⊥
@@ -236,7 +236,7 @@ settles_told tx a calls e = elim (outcome_told tx a None calls e) [ inl q ↦ ab
 
 -- ---- what a Decide was answered
 
-abbrev DecidedIn : ℕ → List Call → Type 0
+abbrev pub DecidedIn : ℕ → List Call → Type 0
 DecidedIn n calls = (c : Call) × IsIn c calls × IsTrue (is_decide c.request) × (c.answer ≡ answer.Decided (record { 0 = n }))
 
 decided_one : (n : ℕ) (node : NodeName) (q : Request) (a : Answer) → WasDecided n (record { node = node; request = q; answer = a } ∷ []) → IsTrue (is_decide q) × (a ≡ answer.Decided (record { 0 = n }))
@@ -245,12 +245,12 @@ decided_one n node q (answer.Decided m) (inr h) = absurd h
 decided_one n node q a (inl h) = absurd h.1
 decided_one n node q a (inr h) = absurd h
 
-was_decided : (n : ℕ) (calls : List Call) → WasDecided n calls → DecidedIn n calls
+pub was_decided : (n : ℕ) (calls : List Call) → WasDecided n calls → DecidedIn n calls
 was_decided n [] h = absurd h
 was_decided n (c ∷ cs) (inl h) = let k = decided_one n c.node c.request c.answer (inl h) in (c, inl refl, k.0, k.1)
 was_decided n (c ∷ cs) (inr h) = let k = was_decided n cs h in (k.0, inr k.1, k.2, k.3)
 
-decides : (q : Request) → IsTrue (is_decide q) → (tx : Tx) × (votes : List Vote) × (q ≡ request.Decide tx votes)
+pub decides : (q : Request) → IsTrue (is_decide q) → (tx : Tx) × (votes : List Vote) × (q ≡ request.Decide tx votes)
 decides (request.Decide tx votes) h = (tx, votes, refl)
 decides q h = absurd (false≢true h)
 
@@ -264,14 +264,14 @@ module _ (ta : TransactionsAscend) (base logs : Logs) (trails : Trails) (lists :
   in_parts j lt = let n : length trails ≡ length base.servers + 1 = k.nodes.nodes in omega (arith, lt, n)
 
   -- a call that tells something of a transaction or a decision was one of fes1
-  told_by_fes : (c : ℕ) (list : List Call) (x : Call) → slice_get lists c ≡ Some list → IsIn x list → IsForFes x.request → (IsTrue (tells_nothing x.answer) → ⊥) → IsIn (asked_by x) (asked_of fes)
-  told_by_fes c list x h i q tells = by (in_Each (λ y. IsNode (length trails) y.node.0) x list i (each_got (λ l. Each (λ y. IsNode (length trails) y.node.0) l) lists c list k.merged.here h))
+  pub at_fes : (c : ℕ) (list : List Call) (x : Call) → slice_get lists c ≡ Some list → IsIn x list → IsForFes x.request → (IsTrue (tells_nothing x.answer) → ⊥) → x.node.0 ≡ 0
+  at_fes c list x h i q tells = by (in_Each (λ y. IsNode (length trails) y.node.0) x list i (each_got (λ l. Each (λ y. IsNode (length trails) y.node.0) l) lists c list k.merged.here h))
     where
       sys : IsOfSystem x
       sys = in_Each IsOfSystem x list i (each_got (λ l. Each IsOfSystem l) lists c list k.system h)
 
-      here : (n : ℕ) → x.node.0 ≡ n → n < length trails → IsIn (asked_by x) (asked_of fes)
-      here zero e lt = list_in_trail trails lists k.merged 0 c fes list x at h i e (stands_told x.request x.answer q tells)
+      here : (n : ℕ) → x.node.0 ≡ n → n < length trails → x.node.0 ≡ 0
+      here zero e lt = e
       here (suc j) e lt =
           let trail = got trails (suc j) lt in
           let before = got base.servers j (in_parts j lt) in
@@ -281,9 +281,12 @@ module _ (ta : TransactionsAscend) (base logs : Logs) (trails : Trails) (lists :
           let right = in_run _ (asked_of trail.0) ran.last (asked_by x) ran.ran within in
           absurd (tells (refuses right.0 x.request x.answer q right.1))
 
-      by : IsNode (length trails) x.node.0 → IsIn (asked_by x) (asked_of fes)
+      by : IsNode (length trails) x.node.0 → x.node.0 ≡ 0
       by (inl lt) = here x.node.0 refl lt
       by (inr m) = absurd (tells (sys.beside (inl m)))
+
+  pub told_by_fes : (c : ℕ) (list : List Call) (x : Call) → slice_get lists c ≡ Some list → IsIn x list → IsForFes x.request → (IsTrue (tells_nothing x.answer) → ⊥) → IsIn (asked_by x) (asked_of fes)
+  told_by_fes c list x h i q tells = list_in_trail trails lists k.merged 0 c fes list x at h i (at_fes c list x h i q tells) (stands_told x.request x.answer q tells)
 
   front_in : (list front : List Call) (x : Call) (back : List Call) (y : Call) → list ≡ front ++ x ∷ back → IsIn y front → IsIn y list
   front_in list front x back y e i = subst (IsIn y) (sym e) (Has-front (λ z. z ≡ y) front (x ∷ back) i)
