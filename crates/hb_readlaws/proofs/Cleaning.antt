@@ -22,7 +22,7 @@ use Rattle.hb_loglaws.proofs.Lookups.{Number, lists_of, put_all_ascends, redo_as
 use Rattle.hb_loglaws.proofs.Members.{in_filter}
 use Rattle.hb_readlaws.proofs.Reading.{reads_group, reads_row, reads_space}
 use Rattle.hb_readlaws.proofs.Under.{lookup_member, under_filter}
-use Rattle.hb_readlaws.specs.Ordering.{GroupsAreClean, ReadsAreClean, SpacesAreClean, WasPut, IsOfLastWriter}
+use Rattle.hb_readlaws.specs.Ordering.{GroupsAreClean, GroupsAreFree, IsFree, IsOfLastWriter, ReadsAreClean, SpacesAreClean, SpacesAreFree, WasPut}
 use Rattle.hb_serverlaws.proofs.Covering.{holds_covers}
 use Rattle.hb_serverlaws.proofs.Lifting.{seen_after}
 use Rattle.hb_serverlaws.proofs.LogKept.{now_is}
@@ -85,6 +85,9 @@ module _ (log : List LogItem) (place : ℕ) (trail : List Asked) (s : SState) (t
       (record { branch = q; known = i; of_tx = refl; touches_it = t }) n))
       (λ f. f)
 
+  free : IsFree s tx p
+  free x u = Each-in (λ q. q.tx ≢ tx → touches x q.changes ≡ false) (now s).doubts (untouched x u)
+
   view_ascends : AreAscending (view s h.branch)
   view_ascends = put_all_ascends (now s).rows h.branch.own (subst AreAscending (sym rows_are) (redo_ascends (log ++ s.log) k.kept.ok))
 
@@ -96,7 +99,7 @@ module _ (log : List LogItem) (place : ℕ) (trail : List Asked) (s : SState) (t
 pub reads_are_clean : ReadsAreClean
 reads_are_clean log place trail s t tx x row r turn =
     let h = reads_row s.up s tx x (Some row) turn.right in
-    (was_put log place trail s tx (path.Key x) _ r h x row (sym h.shows), Each-in (λ p. p.tx ≢ tx → touches x p.changes ≡ false) (now s).doubts (untouched log place trail s tx (path.Key x) _ r h x (same_place-refl x)))
+    (was_put log place trail s tx (path.Key x) _ r h x row (sym h.shows), free log place trail s tx (path.Key x) _ r h x (same_place-refl x))
 
 pub spaces_are_clean : SpacesAreClean
 spaces_are_clean log place trail s t tx space rows r turn =
@@ -107,3 +110,11 @@ pub groups_are_clean : GroupsAreClean
 groups_are_clean log place trail s t tx space group rows r turn =
     let h = reads_group s.up s tx space group rows turn.right in
     subst (Each (λ row. WasPut (log ++ s.log) (writes_of tx trail) row.place row.row)) (sym h.shows) (all_put log place trail s tx (path.Group space group) _ r h)
+
+pub spaces_are_free : SpacesAreFree
+spaces_are_free log place trail s t tx space rows r turn =
+    free log place trail s tx (path.Whole space) _ r (reads_space s.up s tx space rows turn.right)
+
+pub groups_are_free : GroupsAreFree
+groups_are_free log place trail s t tx space group rows r turn =
+    free log place trail s tx (path.Group space group) _ r (reads_group s.up s tx space group rows turn.right)

@@ -1,14 +1,16 @@
 -- What a read answers: the rows after the changes of all smaller numbers, and its own.
-use Rattle.std.specs.Prelude.{◌≡◌, ◌≢◌, ℕ, false, List, ◌∷◌, ◌++◌, ◌⊎◌, Option, Some, None, []}
+use Rattle.std.specs.Prelude.{◌≡◌, ◌≢◌, ℕ, false, true, List, ◌∷◌, ◌++◌, ◌⊎◌, Option, Some, None, []}
 use Rattle.hb_types.specs.declared.answer.Answer.TheVariants as answer
 use Rattle.hb_types.specs.declared.change.Change.{Change}
 use Rattle.hb_types.specs.declared.change.LogItem.{LogItem}
 use Rattle.hb_types.specs.declared.change.Stored.{Stored}
+use Rattle.hb_types.specs.declared.places.Path.{Path}
 use Rattle.hb_types.specs.declared.places.Path.TheVariants as path
 use Rattle.hb_types.specs.declared.places.Place.{Place}
 use Rattle.hb_types.specs.declared.places.Space.{Space}
 use Rattle.hb_types.specs.declared.request.Request.TheVariants as request
 use Rattle.hb_types.specs.Lists.{Each, Has}
+use Rattle.hb_types.specs.Places.{is_under}
 use Rattle.hb_types.specs.Put.{put_all, last_at, lookup, rows_under, touches}
 use Rattle.hb_disks.specs.LogRules.{NumOK}
 use Rattle.hb_disks.specs.Redo.{Decided}
@@ -59,6 +61,21 @@ abbrev pub GroupsAreClean : Type 0
 GroupsAreClean =
     (log : List LogItem) (place : ℕ) (trail : List Asked) (s t : SState) (tx : ℕ) (space : Space) (group : ℕ) (rows : List Stored) → Ran log place trail s
     → Turns s (group_read tx space group rows) t → Each (λ r. WasPut (whole log s) (writes_of tx trail) r.place r.row) rows
+
+-- nobody else in doubt has a change at a place under this path
+abbrev pub IsFree : SState → ℕ → Path → Type 0
+IsFree s tx p = (x : Place) → is_under p x ≡ true → Each (λ q. q.tx ≢ tx → touches x q.changes ≡ false) (now s).doubts
+
+-- so it is of a space whose rows were read, and of a group: also where there was no row
+abbrev pub SpacesAreFree : Type 0
+SpacesAreFree =
+    (log : List LogItem) (place : ℕ) (trail : List Asked) (s t : SState) (tx : ℕ) (space : Space) (rows : List Stored) → Ran log place trail s
+    → Turns s (space_read tx space rows) t → IsFree s tx (path.Whole space)
+
+abbrev pub GroupsAreFree : Type 0
+GroupsAreFree =
+    (log : List LogItem) (place : ℕ) (trail : List Asked) (s t : SState) (tx : ℕ) (space : Space) (group : ℕ) (rows : List Stored) → Ran log place trail s
+    → Turns s (group_read tx space group rows) t → IsFree s tx (path.Group space group)
 
 -- ---- in the order of numbers
 

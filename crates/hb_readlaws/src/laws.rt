@@ -1,5 +1,5 @@
 // Laws of reads.
-ghost use Rattle.hb_readlaws.specs.Ordering.{ReadsAreClean, SpacesAreClean, GroupsAreClean, RowsAreOrdered, SpacesAreOrdered, GroupsAreOrdered};
+ghost use Rattle.hb_readlaws.specs.Ordering.{ReadsAreClean, SpacesAreClean, GroupsAreClean, SpacesAreFree, GroupsAreFree, RowsAreOrdered, SpacesAreOrdered, GroupsAreOrdered};
 
 /// A row that is read was put by the reader itself or by a transaction that has committed.
 pub fn reads_are_clean()
@@ -14,6 +14,16 @@ pub fn spaces_are_clean()
 /// So was a row of a group.
 pub fn groups_are_clean()
     ensures { GroupsAreClean }
+{}
+
+/// Nobody else in doubt has a change in a space that is read.
+pub fn spaces_are_free()
+    ensures { SpacesAreFree }
+{}
+
+/// Nor in a group.
+pub fn groups_are_free()
+    ensures { GroupsAreFree }
 {}
 
 /// A row that a decided transaction read is the one after all smaller numbers and its own writes.
