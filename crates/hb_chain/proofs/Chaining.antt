@@ -1,12 +1,10 @@
 -- Each decision is a step from the state before, from the base on.
 use Rattle.std.proofs.Common.{◌≡◌, ◌≢◌, ◌⊎◌, ◌∙◌, ℕ, ◌+◌, ◌-◌, List, [], ◌∷◌, ◌++◌, Some, ap, append_assoc, append-nil, arith, inl, inr, length, map, refl, subst, sym}
 use Rattle.std.specs.Prelude.{slice_get}
-use Rattle.hb_types.specs.declared.trail.Call.{Call}
 use Rattle.hb_types.specs.Lists.{Each, IsIn}
 use Rattle.hb_types.proofs.Ascending.{Has-front, in_Each}
 use Rattle.hb_model.specs.Items.{Doing, Item, calls_of, nothing_spent, sql, tending, turn}
 use Rattle.hb_model.specs.Answers.{AnswersOf, afters}
-use Rattle.hb_model.specs.Families.{Family}
 use Rattle.hb_law.specs.RunAlone.{RunsAlone, StepsAs}
 use Rattle.hb_model.specs.State.{State}
 use Rattle.hb_model.specs.System.{Sys}

@@ -1,7 +1,6 @@
 -- The law of composition from its parts.
-use Rattle.std.proofs.Common.{◌≡◌, ◌∙◌, ℕ, ◌+◌, List, [], ◌∷◌, ◌++◌, Some, ap, append_assoc, append-nil, arith, length, map, refl, subst, sym}
-use Rattle.hb_types.specs.Lists.{Each, EachBehind}
-use Rattle.hb_model.specs.Items.{calls_of}
+use Rattle.std.proofs.Common.{◌≡◌, ◌∙◌, ◌+◌, List, [], ◌∷◌, ◌++◌, ap, append_assoc, append-nil, arith, length, subst, sym}
+use Rattle.hb_types.specs.Lists.{EachBehind}
 use Rattle.hb_model.specs.State.{State}
 use Rattle.hb_disks.specs.Disks.{written}
 use Rattle.hb_disks.specs.Images.{Logs, decided}
@@ -9,7 +8,7 @@ use Rattle.hb_disks.specs.Redo.{Decided}
 use Rattle.hb_disks.specs.Says.{decisions}
 use Rattle.hb_disks.specs.StandsFor.{AreLogs, StandsWith, StateAfter}
 use Rattle.hb_runs.specs.Coordinator as coordinator
-use Rattle.hb_law.specs.Composition.{BalancedAtCompletes, Together, World, composition, lists_of}
+use Rattle.hb_law.specs.Composition.{BalancedAtCompletes, Together, World, lists_of}
 use Rattle.hb_law.specs.Explained.{ExplainedApart}
 use Rattle.hb_law.specs.RunAlone.{EachStep, IsStep}
 use Rattle.hb_law.specs.Transactions.{Txn}

@@ -1,18 +1,16 @@
 -- Where a call of a decided transaction stands: at which server, before its Decide, and in that server's trail.
-use Rattle.std.proofs.Common.{◌≡◌, ◌⊎◌, ◌∙◌, ℕ, zero, suc, ◌+◌, ◌<◌, ◌≤◌, Bool, true, false, List, [], ◌∷◌, ◌++◌, Some, ap, append_assoc, append-nil, arith, inl, inr, length, map, refl, subst, sym}
-use Rattle.std.specs.Prelude.{IsTrue, slice_get, filter, nat_lt, ◌==◌}
+use Rattle.std.proofs.Common.{◌≡◌, ◌∙◌, ℕ, zero, suc, ◌+◌, ◌<◌, ◌≤◌, true, false, List, [], ◌∷◌, ◌++◌, Some, ap, append_assoc, append-nil, arith, inl, inr, length, map, refl, subst, sym}
+use Rattle.std.specs.Prelude.{IsTrue, slice_get, nat_lt, ◌==◌}
 use Rattle.std.specs.List.{list_any}
 use Rattle.std.specs.Ordering.{nat_cmp}
 use Rattle.std.specs.declared.cmp.Ordering.TheVariants.{Less}
-use Rattle.std.proofs.lemmas.Bool.{eqb-false, false≢true, lt-ltb, ltb-true}
+use Rattle.std.proofs.lemmas.Bool.{eqb-false, lt-ltb, ltb-true}
 use Rattle.std.proofs.lemmas.Cmp.{nat_cmp_total, on_total}
-use Rattle.hb_types.specs.declared.answer.Answer.{Answer}
 use Rattle.hb_types.specs.declared.change.LogItem.{LogItem}
-use Rattle.hb_types.specs.declared.request.Request.{Request}
 use Rattle.hb_types.specs.declared.request.Vote.{Vote}
 use Rattle.hb_types.specs.declared.trail.Call.{Call}
 use Rattle.hb_types.specs.Lists.{Ascends, Each, Has, IsIn}
-use Rattle.hb_types.proofs.Ascending.{Ascends-first, Ascends-tail, Each-of, Has-back, Has-front, in_Each}
+use Rattle.hb_types.proofs.Ascending.{Ascends-first, Ascends-tail, Each-of, Has-back, in_Each}
 use Rattle.hb_types.proofs.PutLaws.{by_test}
 use Rattle.hb_disks.specs.Images.{Logs}
 use Rattle.hb_disks.specs.Redo.{Decided}
@@ -20,7 +18,7 @@ use Rattle.hb_disks.specs.Says.{below}
 use Rattle.hb_disks.specs.StandsFor.{names_node}
 use Rattle.hb_runs.specs.Coordinator as coordinator
 use Rattle.hb_runs.specs.ServerRuns.{Asked}
-use Rattle.hb_law.specs.Histories.{IsNode, Labelled, Trails, asked_by, asked_of, mgr, stands}
+use Rattle.hb_law.specs.Histories.{IsNode, Labelled, Trails, asked_by, asked_of, stands}
 use Rattle.hb_law.specs.Transactions.{tx_asked}
 use Rattle.hb_parts.specs.Callings.{Callings, IsOfSystem, tells_nothing}
 use Rattle.hb_parts.specs.Courses.{AskNone}

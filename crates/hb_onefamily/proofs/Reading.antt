@@ -1,12 +1,11 @@
 -- A decided transaction's row answers are those of the rows of smaller numbers and its own writes before.
-use Rattle.std.proofs.Common.{◌≡◌, ◌⊎◌, ◌∙◌, ℕ, zero, suc, ◌+◌, ◌<◌, ◌≤◌, Bool, true, false, List, [], ◌∷◌, ◌++◌, Some, ap, append_assoc, append-nil, arith, inl, inr, length, map, refl, subst, sym, Option}
+use Rattle.std.proofs.Common.{◌≡◌, ◌∙◌, ℕ, zero, suc, ◌+◌, ◌<◌, Bool, true, false, List, [], ◌∷◌, ◌++◌, Some, ap, arith, inr, length, map, refl, subst, sym, Option}
 use Rattle.std.specs.Prelude.{IsTrue, slice_get, filter, ◌||◌, not, ◌==◌}
 use Rattle.std.specs.Ordering.{nat_cmp}
 use Rattle.std.proofs.lemmas.Bool.{false≢true}
 use Rattle.std.proofs.lemmas.List.Elements.{filter-append}
 use Rattle.hb_types.specs.declared.answer.Answer.{Answer}
 use Rattle.hb_types.specs.declared.answer.Answer.TheVariants as answer
-use Rattle.hb_types.specs.declared.change.Change.{Change}
 use Rattle.hb_types.specs.declared.change.LogItem.{LogItem}
 use Rattle.hb_types.specs.declared.change.Stored.{Stored}
 use Rattle.hb_types.specs.declared.names.Tx.{Tx}
@@ -30,17 +29,17 @@ use Rattle.hb_disks.specs.Says.{below, held, prepares}
 use Rattle.hb_disks.specs.StandsFor.{Agrees, AreLogs, HasPrepared, HasVoted}
 use Rattle.hb_runs.specs.Coordinator as coordinator
 use Rattle.hb_runs.specs.ServerRuns.{Asked}
-use Rattle.hb_law.specs.Callers.{AllVoted, Asks, AsksAt, HasAskedAt, IsOpen, is_enlist, votes_in}
+use Rattle.hb_law.specs.Callers.{Asks, AsksAt, HasAskedAt, IsOpen, is_enlist, votes_in}
 use Rattle.hb_law.specs.Histories.{Labelled, Trails, asked_by, asked_of, calls_at, stands}
 use Rattle.hb_law.specs.Transactions.{tx_asked}
 use Rattle.hb_serverlaws.specs.Trails.{Ran, whole, writes_of}
 use Rattle.hb_readlaws.specs.Ordering.{GroupsAreOrdered, IsDecidedRead, RowsAreOrdered, SpacesAreOrdered, group_read, row_read, seen_by, space_read}
 use Rattle.hb_parts.specs.Callings.{Callings, tells_nothing}
 use Rattle.hb_parts.specs.Courses.{IsCourse, IsOwned, Within, is_own}
-use Rattle.hb_parts.specs.Voting.{IsDecidedCourse, IsNewDecision, KeptRan, ServersRan, is_kept, kept}
-use Rattle.hb_whose.proofs.Parts.{Unkept, behind_at, is_there, kept_twice, none_some, unkept}
+use Rattle.hb_parts.specs.Voting.{IsNewDecision, KeptRan, ServersRan, is_kept, kept}
+use Rattle.hb_whose.proofs.Parts.{behind_at, is_there, kept_twice, none_some, unkept}
 use Rattle.hb_whose.proofs.Trailing.{calls_at_append, own_of, own_parts, same_number}
-use Rattle.hb_onefamily.proofs.Leaving.{WritesOwn, all_writes, answers_by_parts, own_writes, rows_after, rows_in_map, writes_filter}
+use Rattle.hb_onefamily.proofs.Leaving.{WritesOwn, answers_by_parts, own_writes, rows_after, rows_in_map, writes_filter}
 use Rattle.hb_onefamily.proofs.Placing.{AtServer, Before, at_server, before_decide, below_front, named}
 
 -- the laws that this part stands on

@@ -1,8 +1,8 @@
 -- With a decided transaction's writes the rows of smaller numbers are those of its own.
-use Rattle.std.proofs.Common.{◌≡◌, ◌≢◌, ◌⊎◌, ◌∙◌, ℕ, zero, suc, ◌+◌, ◌<◌, Bool, true, false, List, [], ◌∷◌, ◌++◌, Some, ap, append_assoc, append-nil, arith, inl, inr, length, map, refl, subst, sym}
+use Rattle.std.proofs.Common.{◌≡◌, ◌≢◌, ◌⊎◌, ◌∙◌, ℕ, suc, ◌+◌, true, false, List, [], ◌∷◌, ◌++◌, Some, ap, append_assoc, append-nil, arith, inl, inr, length, map, refl, subst, sym}
 use Rattle.std.specs.Prelude.{IsTrue, slice_get, filter, ◌==◌}
 use Rattle.std.specs.List.{list_any}
-use Rattle.std.proofs.lemmas.Bool.{eqb-true, eqb-false, false≢true, ne_eqb}
+use Rattle.std.proofs.lemmas.Bool.{eqb-true, false≢true, ne_eqb}
 use Rattle.std.proofs.lemmas.List.Elements.{filter-append}
 use Rattle.hb_types.specs.declared.answer.Answer.{Answer}
 use Rattle.hb_types.specs.declared.answer.Answer.TheVariants as answer
@@ -24,17 +24,17 @@ use Rattle.hb_laws.specs.RowOrder.{AreAscending}
 use Rattle.hb_laws.proofs.RowLaws.{rows_same}
 use Rattle.hb_branch.proofs.Changes.{last_at-normal}
 use Rattle.hb_loglaws.proofs.Lookups.{held_ascends, put_all_ascends}
-use Rattle.hb_loglaws.proofs.Members.{Has-in, found, map_in}
+use Rattle.hb_loglaws.proofs.Members.{Has-in, found}
 use Rattle.hb_loglaws.specs.Saying.{AreApart, RightLogsSay}
 use Rattle.hb_model.specs.Answers.{afters, is_decide, rows_in}
 use Rattle.hb_disks.specs.Images.{Logs, decided, family}
 use Rattle.hb_disks.proofs.Fold.{held-more}
 use Rattle.hb_disks.specs.LogPlaces.{end_behind}
-use Rattle.hb_disks.specs.Redo.{Decided, Prepared, changes_of, changes_or}
+use Rattle.hb_disks.specs.Redo.{Decided, Prepared, changes_or}
 use Rattle.hb_disks.specs.Says.{ch, held, prepares}
 use Rattle.hb_disks.specs.StandsFor.{AreLogs, HasPrepared, HasVoted, names_node}
 use Rattle.hb_runs.specs.ServerRuns.{Asked}
-use Rattle.hb_law.specs.Callers.{Asks, AsksAt, HasAskedAt, IsOpen, is_enlist, is_prepare, vote_in, votes_in}
+use Rattle.hb_law.specs.Callers.{AsksAt, HasAskedAt, IsOpen, is_enlist, is_prepare, vote_in, votes_in}
 use Rattle.hb_law.specs.Histories.{Labelled, Trails, asked_by, asked_of, calls_at, stands}
 use Rattle.hb_law.specs.Transactions.{tx_asked}
 use Rattle.hb_serverlaws.specs.Logging.{LogIsKept, VotesStand, voted_as}
@@ -42,8 +42,8 @@ use Rattle.hb_serverlaws.specs.Trails.{Ran, whole, writes_of, wrote}
 use Rattle.hb_parts.specs.Callings.{Callings}
 use Rattle.hb_parts.specs.Courses.{IsCourse, Within, is_own}
 use Rattle.hb_parts.specs.Rows.{OneFamily}
-use Rattle.hb_parts.specs.Voting.{IsNewDecision, KeptRan, ServersRan, is_kept, kept}
-use Rattle.hb_whose.proofs.Parts.{Stands, behind_at, is_there, kept_twice, none_some, stands_at, unkept}
+use Rattle.hb_parts.specs.Voting.{IsNewDecision, KeptRan, is_kept, kept}
+use Rattle.hb_whose.proofs.Parts.{Stands, behind_at, is_there, kept_twice, stands_at, unkept}
 use Rattle.hb_whose.proofs.Told.{heads}
 use Rattle.hb_whose.proofs.Trailing.{calls_at_append, got, own_of, same_number}
 use Rattle.hb_onefamily.proofs.Leaving.{afters_length, rows_in_map, same_family, writes_filter}

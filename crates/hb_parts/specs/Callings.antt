@@ -1,17 +1,11 @@
 -- What nodes did and callers asked, apart from what was shown: the premises of all parts.
-use Rattle.std.specs.Prelude.{◌≡◌, ℕ, ◌⊎◌, ◌≤◌, Bool, true, false, IsTrue, List, length, map, Some, slice_get}
-use Rattle.hb_types.specs.declared.answer.Answer.{Answer}
-use Rattle.hb_types.specs.declared.answer.Answer.TheVariants as answer
-use Rattle.hb_types.specs.declared.request.Request.{Request}
-use Rattle.hb_types.specs.declared.request.Request.TheVariants as request
+use Rattle.std.specs.Prelude.{◌≤◌, List, length}
 use Rattle.hb_types.specs.declared.trail.Call.{Call}
 use Rattle.hb_types.specs.Lists.{Each}
 use Rattle.hb_disks.specs.Images.{Logs}
 use Rattle.hb_disks.specs.StandsFor.{AreLogs}
-use Rattle.hb_runs.specs.Board.{is_managed}
-use Rattle.hb_law.specs.Callers.{Obeys, is_begun}
 use Rattle.hb_law.specs.Composition.{AllObey, NodesRan, OperatorObeys}
-use Rattle.hb_law.specs.Histories.{Merged, Trails, mgr}
+use Rattle.hb_law.specs.Histories.{Merged, Trails}
 pub use Rattle.hb_law.specs.Answering.{IsOfSystem, is_begin, tells_nothing}
 
 -- nodes ran from right logs, and the callers' calls are those of the trails

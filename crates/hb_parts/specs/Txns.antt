@@ -4,20 +4,18 @@ use Rattle.hb_types.specs.declared.answer.Answer.TheVariants as answer
 use Rattle.hb_types.specs.declared.request.Request.TheVariants as request
 use Rattle.hb_types.specs.declared.request.Vote.{Vote}
 use Rattle.hb_types.specs.declared.trail.Call.{Call}
-use Rattle.hb_types.specs.Lists.{Each, Has, IsIn}
+use Rattle.hb_types.specs.Lists.{Each, IsIn}
 use Rattle.hb_model.specs.declared.statement.Statement.TheVariants as statement
 use Rattle.hb_model.specs.Answers.{HasAsked, is_undoing}
-use Rattle.hb_model.specs.Families.{Family}
 use Rattle.hb_model.specs.Items.{Doing, Item, calls_of, sql}
 use Rattle.hb_model.specs.State.{State}
-use Rattle.hb_model.specs.System.{Sys}
 use Rattle.hb_disks.specs.Images.{Logs, decided, family}
 use Rattle.hb_disks.specs.Redo.{Decided}
 use Rattle.hb_disks.specs.StandsFor.{AreLogs, StateAfter, back_ends}
 use Rattle.hb_law.specs.Histories.{Labelled, Trails}
-use Rattle.hb_law.specs.RunAlone.{EachStep, IsStep, StepsAs}
+use Rattle.hb_law.specs.RunAlone.{StepsAs}
 use Rattle.hb_law.specs.ShownEnds.{last_item}
-use Rattle.hb_law.specs.Transactions.{AllAnswered, AllAsk, AreRight, AreTxns, IsOfStatements, IsRightTxn, IsTxnOf, Txn}
+use Rattle.hb_law.specs.Transactions.{AllAnswered, AllAsk, AreRight, AreTxns, IsOfStatements, IsRightTxn, Txn}
 use Rattle.hb_alone.specs.RunThrough.{RunThrough}
 use Rattle.hb_parts.specs.Callings.{Callings}
 use Rattle.hb_parts.specs.Courses.{AskNone}

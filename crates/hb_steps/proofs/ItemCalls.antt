@@ -1,6 +1,6 @@
 -- A decided transaction's items, and their calls.
-use Rattle.std.proofs.Common.{◌≡◌, ◌≢◌, ◌⊎◌, ◌∙◌, ℕ, zero, suc, Bool, true, false, List, [], ◌∷◌, ◌++◌, Option, Some, None, ap, append_assoc, append-nil, arith, inl, inr, length, map, refl, subst, sym}
-use Rattle.std.specs.Prelude.{IsTrue, not, ◌==◌, ◌&&◌, slice_get, ⊤}
+use Rattle.std.proofs.Common.{◌≡◌, ◌≢◌, ◌⊎◌, ◌∙◌, ℕ, zero, suc, Bool, true, false, List, [], ◌∷◌, ◌++◌, Some, None, ap, append_assoc, append-nil, arith, inl, inr, length, map, refl, subst, sym}
+use Rattle.std.specs.Prelude.{IsTrue, not, ◌==◌, ◌&&◌, slice_get}
 use Rattle.std.specs.List.{list_all}
 use Rattle.std.specs.Ordering.{nat_cmp}
 use Rattle.std.proofs.lemmas.Bool.{false≢true}
@@ -11,20 +11,19 @@ use Rattle.hb_types.specs.declared.request.Request.{Request}
 use Rattle.hb_types.specs.declared.request.Request.TheVariants as request
 use Rattle.hb_types.specs.declared.trail.Call.{Call}
 use Rattle.hb_types.specs.Lists.{Ascends, Each, Has, IsIn}
-use Rattle.hb_types.proofs.Ascending.{Each-front, Has-back, Has-front, in_Each}
+use Rattle.hb_types.proofs.Ascending.{Each-front, in_Each}
 use Rattle.hb_loglaws.proofs.Members.{found}
-use Rattle.hb_model.specs.declared.reply.Reply.{Reply}
 use Rattle.hb_model.specs.Answers.{AnswersOf, HasAsked, IsAnswerOf, after_answer, after_call, afters, is_of_rows, is_undoing, rows_of}
 use Rattle.hb_model.specs.Families.{Family}
-use Rattle.hb_model.specs.Items.{Doing, Item, calls_of}
-use Rattle.hb_disks.specs.Images.{Logs, decided, family}
+use Rattle.hb_model.specs.Items.{Item, calls_of}
+use Rattle.hb_disks.specs.Images.{Logs, family}
 use Rattle.hb_disks.specs.Redo.{Decided}
 use Rattle.hb_law.specs.Callers.{is_begun}
 use Rattle.hb_law.specs.Histories.{Labelled, Trails}
 use Rattle.hb_law.specs.Standing.{is_aside}
 use Rattle.hb_law.specs.Transactions.{AllAsk, IsApart, IsOver, IsTxnOf, Txn, begins_of, begun_in, caller_of, is_idle, own_items, tx_asked}
 use Rattle.hb_coordlaws.specs.Ascending.{TransactionsAscend}
-use Rattle.hb_parts.specs.Callings.{Callings, IsOfSystem, is_begin}
+use Rattle.hb_parts.specs.Callings.{IsOfSystem, is_begin}
 use Rattle.hb_parts.specs.Courses.{AskNone, IsCourse, Within}
 use Rattle.hb_parts.specs.Rows.{OneFamily}
 use Rattle.hb_parts.specs.Txns.{AreDecidedCalls, HasItems, Itemed}

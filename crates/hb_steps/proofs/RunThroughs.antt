@@ -1,12 +1,9 @@
 -- Statements of a decided transaction were run through, and the last one is its COMMIT.
-use Rattle.std.proofs.Common.{◌≡◌, ◌≢◌, ◌⊎◌, ◌∙◌, ℕ, zero, suc, Bool, true, false, List, [], ◌∷◌, ◌++◌, Option, Some, None, ap, append_assoc, arith, inl, inr, length, refl, subst, sym}
-use Rattle.std.specs.Prelude.{IsTrue, not, ⊤}
+use Rattle.std.proofs.Common.{◌≡◌, ◌⊎◌, ◌∙◌, ℕ, Bool, true, false, List, [], ◌∷◌, ◌++◌, Option, Some, None, ap, arith, inl, inr, length, refl, subst, sym}
+use Rattle.std.specs.Prelude.{IsTrue, not}
 use Rattle.std.proofs.lemmas.Bool.{false≢true}
-use Rattle.hb_types.specs.declared.answer.Answer.{Answer}
-use Rattle.hb_types.specs.declared.answer.Answer.TheVariants as answer
-use Rattle.hb_types.specs.declared.request.Request.TheVariants as request
 use Rattle.hb_types.specs.declared.trail.Call.{Call}
-use Rattle.hb_types.specs.Lists.{Each, Has, IsIn}
+use Rattle.hb_types.specs.Lists.{Each, Has}
 use Rattle.hb_types.proofs.Ascending.{Has-back, Has-front, in_Each}
 use Rattle.hb_types.proofs.PutLaws.{by_test}
 use Rattle.hb_loglaws.proofs.Members.{Has-in, found}
@@ -18,13 +15,12 @@ use Rattle.hb_model.specs.Answers.{HasAsked, is_decide, is_undoing}
 use Rattle.hb_model.specs.Faithful.{Faithful}
 use Rattle.hb_model.specs.Items.{Doing, Item, Spent, calls_of, nothing_spent, spending, sql, tending, turn}
 use Rattle.hb_model.specs.Outside.{is_outside, says_undone}
-use Rattle.hb_disks.specs.Redo.{Decided}
 use Rattle.hb_law.specs.RunAlone.{replies_of, replies_to}
 use Rattle.hb_law.specs.ShownEnds.{last_item}
 use Rattle.hb_law.specs.Transactions.{AllAnswered, AllAsk, AreBeside, AreRight, IsOfStatements, IsRightItem, IsRightStatement, reply_in, tx_asked}
-use Rattle.hb_alone.specs.RunThrough.{IsReplied, RunThrough}
+use Rattle.hb_alone.specs.RunThrough.{IsReplied}
 use Rattle.hb_parts.specs.Courses.{AskNone}
-use Rattle.hb_parts.specs.Txns.{AreDecidedCalls, DecidedRunThrough, EndsInCommit}
+use Rattle.hb_parts.specs.Txns.{DecidedRunThrough, EndsInCommit}
 use Rattle.hb_whose.proofs.Parts.{is_there}
 use Rattle.hb_whose.proofs.Told.{heads}
 

@@ -1,15 +1,12 @@
 -- Each new decision is of a transaction that was given, with the votes of all its nodes.
-use Rattle.std.proofs.Common.{◌≡◌, ◌⊎◌, ◌∙◌, ℕ, Bool, true, false, List, [], ◌∷◌, ◌++◌, Some, ap, append_assoc, inl, inr, refl, subst, sym}
-use Rattle.std.specs.Prelude.{filter, slice_get, IsTrue}
-use Rattle.std.proofs.lemmas.Bool.{false≢true}
-use Rattle.hb_types.specs.declared.answer.Answer.{Answer}
+use Rattle.std.proofs.Common.{◌≡◌, ◌⊎◌, ◌∙◌, ℕ, true, false, List, [], ◌∷◌, ◌++◌, Some, ap, append_assoc, inl, inr, subst, sym}
+use Rattle.std.specs.Prelude.{slice_get, IsTrue}
 use Rattle.hb_types.specs.declared.answer.Answer.TheVariants as answer
-use Rattle.hb_types.specs.declared.names.NodeName.{NodeName}
 use Rattle.hb_types.specs.declared.request.Request.{Request}
 use Rattle.hb_types.specs.declared.request.Request.TheVariants as request
 use Rattle.hb_types.specs.declared.request.Vote.{Vote}
 use Rattle.hb_types.specs.declared.trail.Call.{Call}
-use Rattle.hb_types.specs.Lists.{Each, Has, IsIn}
+use Rattle.hb_types.specs.Lists.{Has, IsIn}
 use Rattle.hb_types.proofs.Ascending.{in_Each}
 use Rattle.hb_loglaws.proofs.Members.{Has-in, filter_in, found, in_filter}
 use Rattle.hb_model.specs.Answers.{HasAsked, is_decide}
@@ -18,14 +15,13 @@ use Rattle.hb_disks.specs.Redo.{Decided}
 use Rattle.hb_disks.specs.Says.{decisions}
 use Rattle.hb_runs.specs.ServerRuns.{Asked}
 use Rattle.hb_law.specs.Callers.{Asks, MayBeDecided, MayDecide, is_settled}
-use Rattle.hb_law.specs.Histories.{Labelled, Trails, asked_by, asked_of, calls_at, stands}
+use Rattle.hb_law.specs.Histories.{Labelled, Trails, asked_of, calls_at, stands}
 use Rattle.hb_law.specs.Transactions.{tx_asked}
-use Rattle.hb_coordlaws.specs.Ascending.{given}
 use Rattle.hb_coordlaws.specs.Asking.{DecisionsWereAsked, IsDecideOf}
 use Rattle.hb_parts.specs.Callings.{Callings}
 use Rattle.hb_parts.specs.Courses.{AskNone, IsCourse, IsOwned, Within, is_own}
 use Rattle.hb_parts.specs.Owning.{AskedOfGiven, OneOwner}
-use Rattle.hb_parts.specs.Voting.{IsDecidedCourse, IsNewDecision}
+use Rattle.hb_parts.specs.Voting.{IsNewDecision}
 use Rattle.hb_whose.proofs.Parts.{behind_at, each_part, is_there, none_some, stands_at}
 use Rattle.hb_whose.proofs.Trailing.{in_calls_at, own_of}
 

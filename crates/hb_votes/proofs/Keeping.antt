@@ -1,20 +1,19 @@
 -- A server's run without the Enlists that nobody was told of, in which each transaction enlists once.
-use Rattle.std.proofs.Common.{◌≡◌, ◌≢◌, ◌⊎◌, ◌∙◌, ℕ, zero, suc, ◌+◌, ◌<◌, ◌≤◌, Bool, true, false, List, [], ◌∷◌, ◌++◌, Some, ap, append_assoc, arith, inl, inr, length, map, refl, subst, sym}
-use Rattle.std.specs.Prelude.{filter, slice_get, ◌==◌, ◌||◌, not, IsTrue}
+use Rattle.std.proofs.Common.{◌≡◌, ◌≢◌, ◌∙◌, ℕ, ◌+◌, ◌<◌, ◌≤◌, Bool, true, false, List, [], ◌∷◌, ◌++◌, Some, ap, append_assoc, arith, inl, inr, length, map, refl, subst, sym}
+use Rattle.std.specs.Prelude.{filter, slice_get, ◌==◌, ◌||◌, not}
 use Rattle.std.proofs.lemmas.Bool.{eqb-true, false≢true}
 use Rattle.std.proofs.lemmas.List.Elements.{filter-append}
 use Rattle.hb_types.specs.declared.answer.Answer.{Answer}
 use Rattle.hb_types.specs.declared.answer.Answer.TheVariants as answer
 use Rattle.hb_types.specs.declared.change.LogItem.{LogItem}
 use Rattle.hb_types.specs.declared.change.LogItem.TheVariants as item
-use Rattle.hb_types.specs.declared.names.Tx.{Tx}
 use Rattle.hb_types.specs.declared.request.Request.{Request}
 use Rattle.hb_types.specs.declared.request.Request.TheVariants as request
 use Rattle.hb_types.specs.declared.trail.Call.{Call}
 use Rattle.hb_types.specs.Lists.{Each, EachBehind, Has, IsIn}
-use Rattle.hb_types.proofs.Ascending.{Each-in, Each-of, Has-front, in_Each}
+use Rattle.hb_types.proofs.Ascending.{in_Each}
 use Rattle.hb_types.proofs.PutLaws.{by_test}
-use Rattle.hb_loglaws.proofs.Members.{Has-in, found, in_filter, in_map}
+use Rattle.hb_loglaws.proofs.Members.{Has-in, found, in_filter}
 use Rattle.hb_disks.specs.Images.{Logs}
 use Rattle.hb_disks.specs.LogPlaces.{end_behind}
 use Rattle.hb_disks.specs.LogRules.{EndFits, IsBranchItem, LocksFit, LogOK}
@@ -24,17 +23,17 @@ use Rattle.hb_disks.specs.StandsFor.{AllReserved, greatest_upto}
 use Rattle.hb_runs.specs.Server.{SState}
 use Rattle.hb_runs.specs.ServerEffects.{Effect, Steps}
 use Rattle.hb_runs.specs.ServerRuns.{Asked, Run, Turns, stopped_at}
-use Rattle.hb_law.specs.Callers.{AsksAt, HasAskedAt, MayEnlist, is_enlist}
-use Rattle.hb_law.specs.Histories.{Labelled, Trails, asked, asked_by, asked_of, calls_at, stands}
+use Rattle.hb_law.specs.Callers.{AsksAt, MayEnlist, is_enlist}
+use Rattle.hb_law.specs.Histories.{Labelled, Trails, asked_by, asked_of, calls_at, stands}
 use Rattle.hb_law.specs.Transactions.{tx_asked}
-use Rattle.hb_serverlaws.specs.Trails.{EnlistsOnce, IsFirst, Ran, noting, voted_in, whole}
+use Rattle.hb_serverlaws.specs.Trails.{EnlistsOnce, IsFirst, noting, voted_in}
 use Rattle.hb_coordlaws.specs.Ascending.{given}
 use Rattle.hb_parts.specs.Callings.{Callings}
-use Rattle.hb_parts.specs.Courses.{IsCourse, IsOwned, Within, is_own}
+use Rattle.hb_parts.specs.Courses.{IsCourse, Within, is_own}
 use Rattle.hb_parts.specs.Owning.{AskedOfGiven, GivenAreNew, OneOwner}
-use Rattle.hb_parts.specs.Voting.{KeptRan, ServersRan, is_kept, kept}
-use Rattle.hb_whose.proofs.Parts.{Unkept, behind_at, is_there, kept_twice, stands_at, unkept}
-use Rattle.hb_whose.proofs.Trailing.{each_got, got, own_of, own_parts, same_number}
+use Rattle.hb_parts.specs.Voting.{KeptRan, is_kept, kept}
+use Rattle.hb_whose.proofs.Parts.{behind_at, is_there, kept_twice, stands_at, unkept}
+use Rattle.hb_whose.proofs.Trailing.{each_got, got, own_of, own_parts}
 
 -- ---- what was not kept did nothing
 

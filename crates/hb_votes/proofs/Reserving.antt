@@ -1,5 +1,5 @@
 -- The coordinator's log stays right, and what it reserved.
-use Rattle.std.proofs.Common.{◌≡◌, ◌≢◌, ◌⊎◌, ◌∙◌, ℕ, zero, suc, ◌+◌, ◌<◌, ◌≤◌, Bool, true, false, List, [], ◌∷◌, ◌++◌, Option, Some, None, ap, append_assoc, arith, inl, inr, length, map, refl, subst, sym}
+use Rattle.std.proofs.Common.{◌≡◌, ◌∙◌, ℕ, zero, suc, ◌≤◌, true, List, [], ◌∷◌, ◌++◌, Option, Some, None, ap, arith, inl, inr, refl, subst, sym}
 use Rattle.std.specs.Prelude.{slice_get}
 use Rattle.hb_types.specs.declared.answer.Answer.{Answer}
 use Rattle.hb_types.specs.declared.answer.Answer.TheVariants as answer
@@ -8,30 +8,17 @@ use Rattle.hb_types.specs.declared.change.LogItem.TheVariants as item
 use Rattle.hb_types.specs.declared.request.Request.{Request}
 use Rattle.hb_types.specs.declared.request.Request.TheVariants as request
 use Rattle.hb_types.specs.declared.trail.Call.{Call}
-use Rattle.hb_types.specs.Lists.{Each, EachBehind, Has, IsIn}
-use Rattle.hb_types.proofs.Ascending.{Each-append, Each-in, Each-of, Each-back, Each-front, in_Each}
-use Rattle.hb_loglaws.proofs.Members.{found, in_append}
-use Rattle.hb_loglaws.specs.Saying.{RightLogsAreHalves, RightLogsSay, ends}
-use Rattle.hb_disks.specs.Images.{Logs, decided}
-use Rattle.hb_disks.specs.LogPlaces.{end_behind}
-use Rattle.hb_disks.specs.LogRules.{IsBranchItem, LogOK}
-use Rattle.hb_disks.specs.Redo.{Decided, Prepared, redo}
-use Rattle.hb_disks.specs.Says.{decisions, prepares}
-use Rattle.hb_disks.proofs.Fold.{prepares-append}
-use Rattle.hb_disks.specs.StandsFor.{AllReserved, AreLogs, HasRoom, greatest_upto, tx_in}
+use Rattle.hb_types.specs.Lists.{Each, IsIn}
+use Rattle.hb_disks.specs.Images.{Logs}
+use Rattle.hb_disks.specs.Says.{decisions}
+use Rattle.hb_disks.specs.StandsFor.{AllReserved, greatest_upto}
 use Rattle.hb_runs.specs.Coordinator as coordinator
-use Rattle.hb_runs.specs.ServerRuns.{Asked, Run, stopped_at}
-use Rattle.hb_law.specs.Histories.{Labelled, Trails, asked_of, stands}
-use Rattle.hb_law.specs.Transactions.{tx_asked}
+use Rattle.hb_runs.specs.ServerRuns.{Asked}
+use Rattle.hb_law.specs.Histories.{Labelled, Trails, asked_of}
 use Rattle.hb_coordlaws.specs.Ascending.{given, given_by}
 use Rattle.hb_coordlaws.specs.Order as order
-use Rattle.hb_serverlaws.specs.Logging as logging
-use Rattle.hb_serverlaws.specs.Trails.{Ran, whole}
 use Rattle.hb_parts.specs.Callings.{Callings}
-use Rattle.hb_parts.specs.Owning.{AskedOfGiven, GivenAreNew}
-use Rattle.hb_parts.specs.Voting.{KeptRan, ServersRan}
 use Rattle.hb_whose.proofs.Parts.{stands_at}
-use Rattle.hb_whose.proofs.Trailing.{each_got, got, own_of}
 
 -- ---- lists by their look-ups
 

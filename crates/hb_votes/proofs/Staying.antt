@@ -1,5 +1,5 @@
 -- The logs of a system stay right.
-use Rattle.std.proofs.Common.{◌≡◌, ◌≢◌, ◌⊎◌, ◌∙◌, ℕ, zero, suc, ◌+◌, ◌<◌, ◌≤◌, Bool, true, false, List, [], ◌∷◌, ◌++◌, Some, None, ap, append_assoc, arith, inl, inr, length, map, refl, subst, sym}
+use Rattle.std.proofs.Common.{◌≡◌, ◌⊎◌, ◌∙◌, ℕ, zero, suc, ◌+◌, ◌<◌, ◌≤◌, Bool, true, false, List, [], ◌∷◌, ◌++◌, Some, None, ap, append_assoc, arith, inl, inr, length, map, refl, subst, sym}
 use Rattle.std.specs.Prelude.{slice_get, filter, IsTrue, ◌==◌}
 use Rattle.std.specs.List.{list_any}
 use Rattle.std.specs.Ordering.{nat_cmp}
@@ -7,25 +7,23 @@ use Rattle.std.proofs.lemmas.Bool.{false≢true}
 use Rattle.hb_types.specs.declared.answer.Answer.TheVariants as answer
 use Rattle.hb_types.specs.declared.change.LogItem.{LogItem}
 use Rattle.hb_types.specs.declared.change.LogItem.TheVariants as item
-use Rattle.hb_types.specs.declared.names.NodeName.{NodeName}
 use Rattle.hb_types.specs.declared.names.Number.{Number}
 use Rattle.hb_types.specs.declared.names.Tx.{Tx}
 use Rattle.hb_types.specs.declared.request.Request.TheVariants as request
 use Rattle.hb_types.specs.declared.request.Vote.{Vote}
 use Rattle.hb_types.specs.declared.trail.Call.{Call}
 use Rattle.hb_types.specs.Lists.{Ascends, Each, EachBehind, Has, IsIn}
-use Rattle.hb_types.proofs.Ascending.{Each-in, Each-of, Has-back, Has-front, Has-of, in_Each}
+use Rattle.hb_types.proofs.Ascending.{Each-in, Has-back, Has-front, Has-of, in_Each}
 use Rattle.hb_loglaws.proofs.Members.{Has-in, filter_in, found, in_append, in_filter}
 use Rattle.hb_loglaws.specs.Saying.{ends}
 use Rattle.hb_disks.specs.Images.{Logs, decided}
 use Rattle.hb_disks.specs.LogPlaces.{end_behind}
-use Rattle.hb_disks.specs.LogRules.{EndFits, IsBranchItem, LocksFit, NumOK}
+use Rattle.hb_disks.specs.LogRules.{EndFits, IsBranchItem, LocksFit}
 use Rattle.hb_disks.specs.Redo.{Decided, Prepared}
 use Rattle.hb_disks.specs.Says.{commits, decisions, prepares, uptos}
 use Rattle.hb_disks.proofs.Fold.{prepares-append}
-use Rattle.hb_disks.specs.StandsFor.{Agrees, AllReserved, AreDecisions, AreLogs, IsCoordinators, CommitsNamed, HasPrepared, HasRoom, HasVoted, NodesAreHere, greatest_upto, names_node}
+use Rattle.hb_disks.specs.StandsFor.{Agrees, AllReserved, AreDecisions, AreLogs, IsCoordinators, HasPrepared, HasRoom, HasVoted, NodesAreHere, greatest_upto, names_node}
 use Rattle.hb_runs.specs.Coordinator as coordinator
-use Rattle.hb_runs.specs.ServerRuns.{Asked}
 use Rattle.hb_law.specs.Callers.{IsOpen, votes_in}
 use Rattle.hb_law.specs.Histories.{Labelled, Trails, asked_by, asked_of, calls_at, stands}
 use Rattle.hb_law.specs.Transactions.{tx_asked}
@@ -34,9 +32,9 @@ use Rattle.hb_serverlaws.specs.Logging.{VotesStand, voted_as}
 use Rattle.hb_serverlaws.specs.Trails.{Ran, whole}
 use Rattle.hb_parts.specs.Callings.{Callings, tells_nothing}
 use Rattle.hb_parts.specs.Courses.{IsCourse, Within, is_own}
-use Rattle.hb_parts.specs.Voting.{IsNewDecision, KeptRan, is_kept, kept}
+use Rattle.hb_parts.specs.Voting.{IsNewDecision, is_kept, kept}
 use Rattle.hb_whose.proofs.Parts.{behind_at, is_there, stands_at}
-use Rattle.hb_whose.proofs.Trailing.{calls_at_in, each_got, got, own_of, own_parts}
+use Rattle.hb_whose.proofs.Trailing.{calls_at_in, each_got, got, own_of}
 use Rattle.hb_onefamily.proofs.Placing.{AtServer, at_server}
 use Rattle.hb_onefamily.proofs.Staying.{decision_reserved}
 use Rattle.hb_onefamily.proofs.Writing.{VotedIn, vote_named, voted_in_calls}

@@ -1,45 +1,37 @@
 -- Who voted at a server is who its decision names, with the floor of the vote.
-use Rattle.std.proofs.Common.{◌≡◌, ◌≢◌, ◌⊎◌, ◌∙◌, ℕ, zero, suc, ◌+◌, ◌<◌, ◌≤◌, Bool, true, false, List, [], ◌∷◌, ◌++◌, Some, ap, append_assoc, arith, inl, inr, length, map, refl, subst, sym}
-use Rattle.std.specs.Prelude.{slice_get, filter, IsTrue, ◌==◌, ◌↔◌}
-use Rattle.std.specs.List.{list_any}
+use Rattle.std.proofs.Common.{◌≡◌, ◌⊎◌, ◌∙◌, ℕ, ◌<◌, Bool, true, false, List, [], ◌∷◌, ◌++◌, Some, ap, append_assoc, inl, inr, refl, subst, sym}
+use Rattle.std.specs.Prelude.{slice_get, IsTrue}
 use Rattle.std.proofs.lemmas.Bool.{false≢true}
-use Rattle.std.proofs.lemmas.List.Elements.{filter-append}
 use Rattle.hb_types.specs.declared.answer.Answer.{Answer}
 use Rattle.hb_types.specs.declared.answer.Answer.TheVariants as answer
 use Rattle.hb_types.specs.declared.change.LogItem.{LogItem}
 use Rattle.hb_types.specs.declared.change.LogItem.TheVariants as item
-use Rattle.hb_types.specs.declared.names.NodeName.{NodeName}
 use Rattle.hb_types.specs.declared.names.Number.{Number}
 use Rattle.hb_types.specs.declared.request.Request.{Request}
 use Rattle.hb_types.specs.declared.request.Request.TheVariants as request
 use Rattle.hb_types.specs.declared.request.Vote.{Vote}
 use Rattle.hb_types.specs.declared.trail.Call.{Call}
 use Rattle.hb_types.specs.Lists.{Each, Has, IsIn}
-use Rattle.hb_types.proofs.Ascending.{Each-in, Has-back, Has-front, Has-of, in_Each}
-use Rattle.hb_loglaws.proofs.Members.{Has-in, filter_in, found, in_append, in_filter}
+use Rattle.hb_types.proofs.Ascending.{Has-back, Has-front, Has-of, in_Each}
+use Rattle.hb_loglaws.proofs.Members.{Has-in, filter_in, found, in_filter}
 use Rattle.hb_model.specs.Answers.{is_decide}
-use Rattle.hb_disks.specs.Images.{Logs, decided}
-use Rattle.hb_disks.specs.LogPlaces.{end_behind}
+use Rattle.hb_disks.specs.Images.{Logs}
 use Rattle.hb_disks.specs.Redo.{Decided, Prepared}
 use Rattle.hb_disks.specs.Says.{prepares}
-use Rattle.hb_disks.proofs.Fold.{prepares-append}
-use Rattle.hb_disks.specs.StandsFor.{AllReserved, Agrees, HasPrepared, greatest_upto, names_node}
+use Rattle.hb_disks.specs.StandsFor.{names_node}
 use Rattle.hb_runs.specs.ServerRuns.{Asked}
 use Rattle.hb_law.specs.Callers.{Asks, AsksAt, HasAskedAt, IsOpen, is_enlist, is_prepare, vote_in, votes_in}
-use Rattle.hb_law.specs.Histories.{Labelled, Trails, asked_by, asked_of, calls_at, stands}
+use Rattle.hb_law.specs.Histories.{Labelled, Trails, asked_of, calls_at, stands}
 use Rattle.hb_law.specs.Transactions.{tx_asked}
-use Rattle.hb_coordlaws.specs.Ascending.{given}
-use Rattle.hb_serverlaws.specs.Logging.{IsRecordOf, RecordsWereAsked, VotesStand, voted_as}
-use Rattle.hb_serverlaws.specs.Trails.{Ran, whole}
+use Rattle.hb_serverlaws.specs.Logging.{IsRecordOf}
 use Rattle.hb_parts.specs.Callings.{Callings}
 use Rattle.hb_parts.specs.Courses.{IsCourse, Within, is_own}
-use Rattle.hb_parts.specs.Owning.{GivenAreNew}
-use Rattle.hb_parts.specs.Voting.{IsNewDecision, KeptRan, is_kept, kept}
-use Rattle.hb_whose.proofs.Parts.{behind_at, is_there, kept_twice, stands_at, unkept}
+use Rattle.hb_parts.specs.Voting.{IsNewDecision}
+use Rattle.hb_whose.proofs.Parts.{behind_at, is_there, stands_at}
 use Rattle.hb_whose.proofs.Told.{Placed, before, behind, placed, same}
-use Rattle.hb_whose.proofs.Trailing.{each_got, in_calls_at, own_of, own_parts}
-use Rattle.hb_onefamily.proofs.Placing.{Before, before_decide, named}
-use Rattle.hb_onefamily.proofs.Writing.{VotedIn, vote_named, voted_in_calls}
+use Rattle.hb_whose.proofs.Trailing.{in_calls_at, own_of}
+use Rattle.hb_onefamily.proofs.Placing.{before_decide, named}
+use Rattle.hb_onefamily.proofs.Writing.{voted_in_calls}
 
 abbrev number_of : Answer → ℕ
 number_of (answer.Vote f) = f.0
