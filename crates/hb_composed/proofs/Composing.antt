@@ -20,18 +20,21 @@ use Rattle.hb_parts.specs.Whole.{Chained, CompletesAreBalanced, EndsAreShown, Ro
 use Rattle.hb_whose.proofs.Trailing.{got}
 
 -- the chain's steps
-each_step : (logs : Logs) (txns : List Txn) (ds0 done : List Decided) (s : State) (ds : List Decided) (t : State) → Chain logs txns (ds0 ++ done) s ds t → StateAfter logs (ds0 ++ done) s
+each_step : (logs : Logs) (txns : List Txn) (ds0 done : List Decided) (s : State) (ds : List Decided) (t : State) → Chain logs txns (ds0 ++ done) s ds t
+    → StateAfter logs (ds0 ++ done) s
     → EachBehind (λ f d. IsStep logs txns (ds0 ++ f) d) done ds
 each_step logs txns ds0 done s [] t c at = tt
 each_step logs txns ds0 done s (d ∷ ds) t c at =
     let same : (ds0 ++ done) ++ d ∷ [] ≡ ds0 ++ (done ++ d ∷ []) = append_assoc ds0 done (d ∷ []) in (
       record { txn = c.0.txn; known = c.0.known; of_tx = c.0.of_tx; before = s; after = c.0.after; at_before = at; at_after = c.0.at_after; steps = c.0.steps },
-      each_step logs txns ds0 (done ++ d ∷ []) c.0.after ds t (subst (λ l. Chain logs txns l c.0.after ds t) same c.1) (subst (λ l. StateAfter logs l c.0.after) same c.0.at_after),
+      each_step logs txns ds0 (done ++ d ∷ []) c.0.after ds t (subst (λ l. Chain logs txns l c.0.after ds t) same c.1)
+          (subst (λ l. StateAfter logs l c.0.after) same c.0.at_after),
     )
 
 module _ (grow : DecisionsGrow) (logs_right : LogsStayRight) (states : StatesChain) (ends : EndsAreShown) (clean : RowsAreClean) (balanced : CompletesAreBalanced) (w : World) (t : Together written w) where
   callings : Callings w.base w.logs w.trails (lists_of w)
-  callings = record { right = t.stood.are_logs; nodes = t.nodes; merged = t.merged; obey = t.obey; operator = t.operator; system = t.system; back_ends_few = t.back_ends_few }
+  callings =
+      record { right = t.stood.are_logs; nodes = t.nodes; merged = t.merged; obey = t.obey; operator = t.operator; system = t.system; back_ends_few = t.back_ends_few }
 
   items : Itemed w.base w.logs w.trails w.lists w.txns
   items = record { callings = callings; txns_are = t.txns; right = t.right }
@@ -47,7 +50,8 @@ module _ (grow : DecisionsGrow) (logs_right : LogsStayRight) (states : StatesCha
       let g = grow (coordinator.stopped_at w.base.fes) r.last _ r.ran in
       (g.0, ap decisions r.log ∙ g.1)
 
-  chain : (last : State) × StateAfter w.logs (decided w.base) t.start × StateAfter w.logs (decided w.logs) last × Chain w.logs w.txns (decided w.base) t.start grown.0 last
+  chain : (last : State) × StateAfter w.logs (decided w.base) t.start × StateAfter w.logs (decided w.logs) last
+      × Chain w.logs w.txns (decided w.base) t.start grown.0 last
   chain = states w.base w.logs w.trails w.lists w.txns grown.0 t.start items right grown.1 t.stood.system
 
   chained : Chained w
@@ -56,7 +60,8 @@ module _ (grow : DecisionsGrow) (logs_right : LogsStayRight) (states : StatesCha
   steps : EachStep w.logs w.txns (decided w.base) grown.0
   steps =
       let nil : decided w.base ++ [] ≡ decided w.base = append-nil (decided w.base) in
-      each_step w.logs w.txns (decided w.base) [] t.start grown.0 chain.0 (subst (λ l. Chain w.logs w.txns l t.start grown.0 chain.0) (sym nil) chain.3) (subst (λ l. StateAfter w.logs l t.start) (sym nil) chain.1)
+      each_step w.logs w.txns (decided w.base) [] t.start grown.0 chain.0 (subst (λ l. Chain w.logs w.txns l t.start grown.0 chain.0) (sym nil) chain.3)
+      (subst (λ l. StateAfter w.logs l t.start) (sym nil) chain.1)
 
   explained : ExplainedApart w.base w.logs w.txns w.lines grown.0
   explained = let e = ends w grown.0 t right grown.1 in record { decisions = e.0; ends = e.1; run_alone = steps; clean = clean w t right chained }
@@ -64,5 +69,6 @@ module _ (grow : DecisionsGrow) (logs_right : LogsStayRight) (states : StatesCha
   stands : StandsWith written w.images w.logs chain.0
   stands = record { read = t.read; are_logs = right; points = t.points; system = chain.2 }
 
-  pub composed : ((s : State) × StandsWith written w.images w.logs s) × ((further : List Decided) × ExplainedApart w.base w.logs w.txns w.lines further) × BalancedAtCompletes w
+  pub composed : ((s : State) × StandsWith written w.images w.logs s) × ((further : List Decided) × ExplainedApart w.base w.logs w.txns w.lines further)
+      × BalancedAtCompletes w
   composed = ((chain.0, stands), (grown.0, explained), balanced w t right chained)

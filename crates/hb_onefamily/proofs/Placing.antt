@@ -28,7 +28,8 @@ use Rattle.hb_whose.proofs.Trailing.{each_got, got, list_in_trail}
 -- ---- the decisions below one
 
 module _ (d : Decided) where
-  below_all : (front : List Decided) → Each (λ x. x.number < d.number) front → (back : List Decided) → below d.number (front ++ back) ≡ front ++ below d.number back
+  below_all : (front : List Decided) → Each (λ x. x.number < d.number) front → (back : List Decided)
+      → below d.number (front ++ back) ≡ front ++ below d.number back
   below_all [] e back = refl
   below_all (x ∷ xs) e back = let t : nat_lt x.number d.number ≡ true = lt-ltb x.number d.number e.0 in rw t (ap (λ l. x ∷ l) (below_all xs e.1 back))
 
@@ -45,18 +46,25 @@ module _ (d : Decided) where
   smaller : (front back : List Decided) → Ascends (λ a b. nat_cmp a.number b.number) (front ++ d ∷ back) → Each (λ x. x.number < d.number) front
   smaller [] back a = tt
   smaller (x ∷ xs) back a = (
-    less_is x.number d.number (in_Each (λ y. nat_cmp x.number y.number ≡ Less) d (xs ++ d ∷ back) (Has-back (λ y. y ≡ d) xs (d ∷ back) (inl refl)) (Ascends-first (λ a b. nat_cmp a.number b.number) (on_total (λ (z : Decided). z.number) nat_cmp_total) x (xs ++ d ∷ back) a)),
+    less_is x.number d.number (in_Each (λ y. nat_cmp x.number y.number ≡ Less) d (xs ++ d ∷ back) (Has-back (λ y. y ≡ d) xs (d ∷ back) (inl refl))
+        (Ascends-first (λ a b. nat_cmp a.number b.number) (on_total (λ (z : Decided). z.number) nat_cmp_total) x (xs ++ d ∷ back) a)),
     smaller xs back (Ascends-tail (λ a b. nat_cmp a.number b.number) (on_total (λ (z : Decided). z.number) nat_cmp_total) x (xs ++ d ∷ back) a),
   )
 
-  behind_tail : (front back : List Decided) → Ascends (λ a b. nat_cmp a.number b.number) (front ++ d ∷ back) → Ascends (λ a b. nat_cmp a.number b.number) (d ∷ back)
+  behind_tail : (front back : List Decided) → Ascends (λ a b. nat_cmp a.number b.number) (front ++ d ∷ back)
+      → Ascends (λ a b. nat_cmp a.number b.number) (d ∷ back)
   behind_tail [] back a = a
-  behind_tail (x ∷ xs) back a = behind_tail xs back (Ascends-tail (λ a b. nat_cmp a.number b.number) (on_total (λ (z : Decided). z.number) nat_cmp_total) x (xs ++ d ∷ back) a)
+  behind_tail (x ∷ xs) back a =
+      behind_tail xs back (Ascends-tail (λ a b. nat_cmp a.number b.number) (on_total (λ (z : Decided). z.number) nat_cmp_total) x (xs ++ d ∷ back) a)
 
   pub below_front : (front back : List Decided) → Ascends (λ a b. nat_cmp a.number b.number) (front ++ d ∷ back) → below d.number (front ++ d ∷ back) ≡ front
   below_front front back a =
       below_all front (smaller front back a) (d ∷ back)
-      ∙ ap (λ l. front ++ l) (below_none (d ∷ back) (omega arith, Each-of (λ y. nat_cmp d.number y.number ≡ Less) (λ y. d.number ≤ y.number) back (λ y h. over (less_is d.number y.number h)) (Ascends-first (λ a b. nat_cmp a.number b.number) (on_total (λ (z : Decided). z.number) nat_cmp_total) d back (behind_tail front back a))))
+      ∙ ap (λ l. front ++ l) (below_none (d ∷ back) (
+        omega arith,
+        Each-of (λ y. nat_cmp d.number y.number ≡ Less) (λ y. d.number ≤ y.number) back (λ y h. over (less_is d.number y.number h))
+            (Ascends-first (λ a b. nat_cmp a.number b.number) (on_total (λ (z : Decided). z.number) nat_cmp_total) d back (behind_tail front back a)),
+      ))
       ∙ append-nil front
     where
       over : {y : ℕ} → d.number < y → d.number ≤ y
@@ -74,7 +82,8 @@ pub record AtServer (base logs : Logs) (trails : Trails) (node : ℕ) : Type 0 w
   pub got_after : slice_get logs.servers place ≡ Some after
   pub got_trail : slice_get trails (suc place) ≡ Some trail
 
-in_crun : (s : coordinator.CState) (trail : List Asked) (t : coordinator.CState) (a : Asked) → coordinator.CRun s trail t → IsIn a trail → (u : coordinator.CState) × coordinator.Right u a.request a.answer
+in_crun : (s : coordinator.CState) (trail : List Asked) (t : coordinator.CState) (a : Asked) → coordinator.CRun s trail t → IsIn a trail
+    → (u : coordinator.CState) × coordinator.Right u a.request a.answer
 in_crun s [] t a r h = absurd h
 in_crun s (b ∷ more) t a r (inl e) = (s, subst (λ z. coordinator.Right s z.request z.answer) e r.1.right)
 in_crun s (b ∷ more) t a r (inr h) = in_crun r.0 more t a r.2 h
@@ -84,9 +93,12 @@ module _ (base logs : Logs) (trails : Trails) (lists : List (List Call)) (k : Ca
   in_parts j lt = let n : length trails ≡ length base.servers + 1 = k.nodes.nodes in omega (arith, lt, n)
 
   -- a call whose answer tells something, and that fes1 doesn't answer so, is one of a server
-  pub at_server : (c : ℕ) (list : List Call) (x : Call) → slice_get lists c ≡ Some list → IsIn x list → (IsTrue (tells_nothing x.answer) → ⊥) → stands (asked_by x) ≡ true
+  pub at_server : (c : ℕ) (list : List Call) (x : Call) → slice_get lists c ≡ Some list → IsIn x list → (IsTrue (tells_nothing x.answer) → ⊥)
+      → stands (asked_by x) ≡ true
       → ((u : coordinator.CState) → coordinator.Right u x.request x.answer → ⊥) → AtServer base logs trails x.node.0
-  at_server c list x h i tells st not_fes = by (in_Each (λ y. IsNode (length trails) y.node.0) x list i (each_got (λ l. Each (λ y. IsNode (length trails) y.node.0) l) lists c list k.merged.here h))
+  at_server c list x h i tells st not_fes =
+      by (in_Each (λ y. IsNode (length trails) y.node.0) x list i
+      (each_got (λ l. Each (λ y. IsNode (length trails) y.node.0) l) lists c list k.merged.here h))
     where
       sys : IsOfSystem x
       sys = in_Each IsOfSystem x list i (each_got (λ l. Each IsOfSystem l) lists c list k.system h)
@@ -120,7 +132,8 @@ pub record Before (front : List Call) (done : List Call) (x : Call) : Type 0 whe
   pub more : List Call
   pub parts : front ≡ done ++ x ∷ more
 
-pub before_decide : (t : ℕ) (course front : List Call) (decide : Call) (back done : List Call) (x : Call) (rest : List Call) → course ≡ front ++ decide ∷ back → AskNone t back
+pub before_decide : (t : ℕ) (course front : List Call) (decide : Call) (back done : List Call) (x : Call) (rest : List Call) → course ≡ front ++ decide ∷ back
+    → AskNone t back
     → course ≡ done ++ x ∷ rest → tx_asked x.request ≡ Some t → (x ≡ decide → ⊥) → Before front done x
 before_decide t course front decide back done x rest p none q asks other = by (placed done x rest front decide back (sym q ∙ p))
   where
@@ -128,8 +141,10 @@ before_decide t course front decide back done x rest p none q asks other = by (p
     by (same e) = absurd (other e)
     by (before m e) = record { more = m; parts = e }
     by (behind m e) =
-        let tail : decide ∷ back ≡ decide ∷ (m ++ x ∷ rest) = cancel front (decide ∷ back) (decide ∷ (m ++ x ∷ rest)) (sym p ∙ q ∙ ap (λ l. l ++ x ∷ rest) e ∙ append_assoc front (decide ∷ m) (x ∷ rest)) in
-        absurd (in_Each (λ y. tx_asked y.request ≡ Some t → ⊥) x back (subst (IsIn x) (sym (cancel (decide ∷ []) back (m ++ x ∷ rest) tail)) (Has-back (λ y. y ≡ x) m (x ∷ rest) (inl refl))) none asks)
+        let tail : decide ∷ back ≡ decide ∷ (m ++ x ∷ rest) = cancel front (decide ∷ back) (decide ∷ (m ++ x ∷ rest))
+        (sym p ∙ q ∙ ap (λ l. l ++ x ∷ rest) e ∙ append_assoc front (decide ∷ m) (x ∷ rest)) in
+        absurd (in_Each (λ y. tx_asked y.request ≡ Some t → ⊥) x back
+        (subst (IsIn x) (sym (cancel (decide ∷ []) back (m ++ x ∷ rest) tail)) (Has-back (λ y. y ≡ x) m (x ∷ rest) (inl refl))) none asks)
 
 -- ---- nodes of votes
 
@@ -141,5 +156,6 @@ any_vote node (v ∷ vs) (inl e) = let t : (v.node.0 == node) ≡ true = here v.
     here m e = by_test (m == node) (λ t. t) (λ f. absurd (eqb-false m node f e))
 any_vote node (v ∷ vs) (inr h) = let r = any_vote node vs h in by_test (v.node.0 == node) (λ t. rw t refl) (λ f. rw f r)
 
-pub named : (node : ℕ) (d : Decided) (votes : List Vote) → map (λ (v : Vote). v.node) votes ≡ d.nodes → Has (λ v. v.node.0 ≡ node) votes → IsTrue (names_node node d)
+pub named : (node : ℕ) (d : Decided) (votes : List Vote) → map (λ (v : Vote). v.node) votes ≡ d.nodes → Has (λ v. v.node.0 ≡ node) votes
+    → IsTrue (names_node node d)
 named node d votes e h = ap (λ l. list_any (λ n. n.0 == node) l) (sym e) ∙ any_vote node votes h

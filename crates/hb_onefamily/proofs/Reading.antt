@@ -53,18 +53,22 @@ fes_row : (up : Bool) (u : coordinator.CState) (tx : Tx) (p : Place) (row : Opti
 fes_row true u tx p row r = r
 fes_row false u tx p row r = r
 
-fes_space : (up : Bool) (u : coordinator.CState) (tx : Tx) (p : Space) (rows : List Stored) → coordinator.RightIn up u (request.Scan tx p) (answer.Rows rows) → ⊥
+fes_space : (up : Bool) (u : coordinator.CState) (tx : Tx) (p : Space) (rows : List Stored) → coordinator.RightIn up u (request.Scan tx p) (answer.Rows rows)
+    → ⊥
 fes_space true u tx p rows r = r
 fes_space false u tx p rows r = r
 
-fes_group : (up : Bool) (u : coordinator.CState) (tx : Tx) (p : Space) (g : ℕ) (rows : List Stored) → coordinator.RightIn up u (request.ScanGroup tx p g) (answer.Rows rows) → ⊥
+fes_group : (up : Bool) (u : coordinator.CState) (tx : Tx) (p : Space) (g : ℕ) (rows : List Stored)
+    → coordinator.RightIn up u (request.ScanGroup tx p g) (answer.Rows rows) → ⊥
 fes_group true u tx p g rows r = r
 fes_group false u tx p g rows r = r
 
 -- an answer is right if each row answer is
-answer_of : (rows : List Stored) (q : Request) (a : Answer) → ((tx : Tx) (p : Place) (row : Option (List ℕ)) → q ≡ request.Read tx p → a ≡ answer.Row row → row ≡ lookup p rows)
+answer_of : (rows : List Stored) (q : Request) (a : Answer)
+    → ((tx : Tx) (p : Place) (row : Option (List ℕ)) → q ≡ request.Read tx p → a ≡ answer.Row row → row ≡ lookup p rows)
     → ((tx : Tx) (p : Space) (found : List Stored) → q ≡ request.Scan tx p → a ≡ answer.Rows found → found ≡ rows_under (path.Whole p) rows)
-    → ((tx : Tx) (p : Space) (g : ℕ) (found : List Stored) → q ≡ request.ScanGroup tx p g → a ≡ answer.Rows found → found ≡ rows_under (path.Group p g) rows) → IsAnswerOf rows q a
+    → ((tx : Tx) (p : Space) (g : ℕ) (found : List Stored) → q ≡ request.ScanGroup tx p g → a ≡ answer.Rows found → found ≡ rows_under (path.Group p g) rows)
+    → IsAnswerOf rows q a
 answer_of rows (request.Read tx p) (answer.Row row) f g h = f tx p row refl refl
 answer_of rows (request.Scan tx p) (answer.Rows found) f g h = g tx p found refl refl
 answer_of rows (request.ScanGroup tx p gr) (answer.Rows found) f g h = h tx p gr found refl refl
@@ -78,7 +82,8 @@ module _ (laws : Laws) (base logs : Logs) (trails : Trails) (lists : List (List 
 
   course_in : (x : Call) → IsIn x nd.owned.course → IsIn x nd.owned.list
   course_in x i =
-      subst (IsIn x) (sym nd.owned.parts) (Has-back (λ y. y ≡ x) nd.owned.before (nd.owned.begin ∷ (nd.owned.course ++ nd.owned.after)) (inr (Has-front (λ y. y ≡ x) nd.owned.course nd.owned.after i)))
+      subst (IsIn x) (sym nd.owned.parts) (Has-back (λ y. y ≡ x) nd.owned.before (nd.owned.begin ∷ (nd.owned.course ++ nd.owned.after))
+      (inr (Has-front (λ y. y ≡ x) nd.owned.course nd.owned.after i)))
 
   -- the decisions of smaller numbers
   pub below_is : below d.number (decided logs) ≡ front
@@ -90,13 +95,17 @@ module _ (laws : Laws) (base logs : Logs) (trails : Trails) (lists : List (List 
   -- ---- votes
 
   -- at a server of its own the transaction has voted
-  pub voted_at : (node place : ℕ) (after : List LogItem) → node ≡ suc place → slice_get logs.servers place ≡ Some after → HasAskedAt is_enlist node nd.is_decided.front
+  pub voted_at : (node place : ℕ) (after : List LogItem) → node ≡ suc place → slice_get logs.servers place ≡ Some after
+      → HasAskedAt is_enlist node nd.is_decided.front
       → HasPrepared after d
   voted_at node place after e h asked =
       let c = found (AsksAt is_enlist node) nd.is_decided.front asked in
-      let v : Has (λ v. v.node.0 ≡ c.0.node.0) (votes_in nd.is_decided.front) = in_Each (λ y. Asks is_enlist y → Has (λ v. v.node.0 ≡ y.node.0) (votes_in nd.is_decided.front)) c.0 nd.is_decided.front c.1 nd.is_decided.all c.2.1 in
-      let w : Has (λ v. v.node.0 ≡ place + 1) nd.is_decided.votes = subst (λ n. Has (λ v. v.node.0 ≡ n) nd.is_decided.votes) (c.2.0 ∙ e ∙ one_more place) (subst (Has (λ v. v.node.0 ≡ c.0.node.0)) (sym nd.is_decided.told) v) in
-      (in_Each (HasVoted (place + 1) after) d (decided logs) is_decided (right.votes_and_outcomes.servers place after h).voted).0 (named (place + 1) d nd.is_decided.votes nd.is_decided.nodes w)
+      let v : Has (λ v. v.node.0 ≡ c.0.node.0) (votes_in nd.is_decided.front) = in_Each
+      (λ y. Asks is_enlist y → Has (λ v. v.node.0 ≡ y.node.0) (votes_in nd.is_decided.front)) c.0 nd.is_decided.front c.1 nd.is_decided.all c.2.1 in
+      let w : Has (λ v. v.node.0 ≡ place + 1) nd.is_decided.votes = subst (λ n. Has (λ v. v.node.0 ≡ n) nd.is_decided.votes) (c.2.0 ∙ e ∙ one_more place)
+      (subst (Has (λ v. v.node.0 ≡ c.0.node.0)) (sym nd.is_decided.told) v) in
+      (in_Each (HasVoted (place + 1) after) d (decided logs) is_decided (right.votes_and_outcomes.servers place after h).voted).0
+      (named (place + 1) d nd.is_decided.votes nd.is_decided.nodes w)
     where
       one_more : (n : ℕ) → suc n ≡ n + 1
       one_more n = omega arith
@@ -123,7 +132,9 @@ module _ (laws : Laws) (base logs : Logs) (trails : Trails) (lists : List (List 
       → rows_in place (afters (family logs front) done) ≡ put_all (held after front) (writes_of d.tx (calls_at (suc place) done))
   rows_behind place after done more h e =
       rows_after place (family logs front) done (within logs.servers place h)
-      ∙ ap (λ ws. put_all (rows_in place (family logs front)) ws) (own_writes d.tx (calls_at (suc place) done) (own_at d.tx (suc place) done (Each-front (λ c. WritesOwn d.tx c.request) done more (subst (Each (λ c. WritesOwn d.tx c.request)) e course_owns))))
+      ∙ ap (λ ws. put_all (rows_in place (family logs front)) ws)
+      (own_writes d.tx (calls_at (suc place) done)
+      (own_at d.tx (suc place) done (Each-front (λ c. WritesOwn d.tx c.request) done more (subst (Each (λ c. WritesOwn d.tx c.request)) e course_owns))))
       ∙ ap (λ rows. put_all rows (writes_of d.tx (calls_at (suc place) done))) (rows_in_map (λ log. held log front) logs.servers place after h)
     where
       within : (xs : List (List LogItem)) (i : ℕ) → slice_get xs i ≡ Some after → i < length (map (λ log. held log front) xs)
@@ -156,10 +167,14 @@ module _ (laws : Laws) (base logs : Logs) (trails : Trails) (lists : List (List 
     module _ (asks : tx_asked x.request ≡ Some d.tx) (open_at : IsOpen x.node.0 done) (plain : is_decide x.request ≡ false) (tells : IsTrue (tells_nothing x.answer) → ⊥)
         (stood : stands (asked_by x) ≡ true) (not_fes : (u : coordinator.CState) → coordinator.Right u x.request x.answer → ⊥) where
       server : AtServer base logs trails x.node.0
-      server = at_server base logs trails lists k fes at nd.owned.caller nd.owned.list x nd.owned.its_list (course_in x (subst (IsIn x) (sym parts) (is_there x done rest))) tells stood not_fes
+      server =
+          at_server base logs trails lists k fes at nd.owned.caller nd.owned.list x nd.owned.its_list
+          (course_in x (subst (IsIn x) (sym parts) (is_there x done rest))) tells stood not_fes
 
       run_of : (s : AtServer base logs trails x.node.0) → KeptRan s.before s.after s.trail
-      run_of s = laws.servers base logs trails lists s.place s.before s.after s.trail k s.got_before s.got_after (subst (λ n. slice_get trails n ≡ Some s.trail) (one_more s.place) s.got_trail)
+      run_of s =
+          laws.servers base logs trails lists s.place s.before s.after s.trail k s.got_before s.got_after
+          (subst (λ n. slice_get trails n ≡ Some s.trail) (one_more s.place) s.got_trail)
         where
           one_more : (n : ℕ) → suc n ≡ n + 1
           one_more n = omega arith
@@ -173,7 +188,8 @@ module _ (laws : Laws) (base logs : Logs) (trails : Trails) (lists : List (List 
       enlisted = subst (HasAskedAt is_enlist x.node.0) (sym early.parts) (Has-front (AsksAt is_enlist x.node.0) done (x ∷ early.more) open_at.enlisted)
 
       -- its own entries of the trail are those of the course
-      in_kept : (s : AtServer base logs trails x.node.0) → filter (is_own d.tx) (kept s.trail) ≡ filter (is_own d.tx) (calls_at x.node.0 done) ++ asked_by x ∷ filter (is_own d.tx) (calls_at x.node.0 rest)
+      in_kept : (s : AtServer base logs trails x.node.0)
+          → filter (is_own d.tx) (kept s.trail) ≡ filter (is_own d.tx) (calls_at x.node.0 done) ++ asked_by x ∷ filter (is_own d.tx) (calls_at x.node.0 rest)
       in_kept s =
           kept_twice (is_own d.tx) is_kept (wider d.tx) (asked_of s.trail)
           ∙ nd.owned.in_trails x.node.0 s.trail (subst (λ n. slice_get trails n ≡ Some s.trail) (sym s.is) s.got_trail)
@@ -187,9 +203,11 @@ module _ (laws : Laws) (base logs : Logs) (trails : Trails) (lists : List (List 
       stood_at : (s : AtServer base logs trails x.node.0) → StoodAt
       stood_at s =
           let r = run_of s in
-          let u = unkept (is_own d.tx) (kept s.trail) (filter (is_own d.tx) (calls_at x.node.0 done)) (asked_by x) (filter (is_own d.tx) (calls_at x.node.0 rest)) (in_kept s) in
+          let u = unkept (is_own d.tx) (kept s.trail) (filter (is_own d.tx) (calls_at x.node.0 done)) (asked_by x)
+          (filter (is_own d.tx) (calls_at x.node.0 rest)) (in_kept s) in
           let agrees : Agrees (decided logs) (s.place + 1) s.after = right.votes_and_outcomes.servers s.place s.after s.got_after in
-          let writes : writes_of d.tx u.front ≡ writes_of d.tx (calls_at x.node.0 done) = sym (writes_filter d.tx u.front) ∙ ap (writes_of d.tx) u.before ∙ writes_filter d.tx (calls_at x.node.0 done) in
+          let writes : writes_of d.tx u.front ≡ writes_of d.tx (calls_at x.node.0 done) = sym (writes_filter d.tx u.front) ∙ ap (writes_of d.tx) u.before
+          ∙ writes_filter d.tx (calls_at x.node.0 done) in
           record {
             server = s;
             run = r;
@@ -216,21 +234,25 @@ module _ (laws : Laws) (base logs : Logs) (trails : Trails) (lists : List (List 
 
     -- ---- by kind
 
-    row_answer : (tx : Tx) (p : Place) (row : Option (List ℕ)) → x.request ≡ request.Read tx p → x.answer ≡ answer.Row row → row ≡ lookup p (rows_of x.node.0 (afters (family logs front) done))
+    row_answer : (tx : Tx) (p : Place) (row : Option (List ℕ)) → x.request ≡ request.Read tx p → x.answer ≡ answer.Row row
+        → row ≡ lookup p (rows_of x.node.0 (afters (family logs front) done))
     row_answer tx p row e f =
         let w : (tx.0 ≡ d.tx) × IsOpen x.node.0 done = subst (Within d.tx done x.node.0) e here in
         let it : asked_by x ≡ row_read d.tx p row = λ i. record { request = (e ∙ ap (λ n. request.Read (record { 0 = n }) p) w.0) i; answer = f i } in
-        let s = stood_here (ap tx_asked e ∙ ap (λ n. Some n) w.0) w.1 (ap is_decide e) (λ h. false≢true (subst (λ a. IsTrue (tells_nothing a)) f h)) (ap stands it)
+        let s = stood_here (ap tx_asked e ∙ ap (λ n. Some n) w.0) w.1 (ap is_decide e) (λ h. false≢true (subst (λ a. IsTrue (tells_nothing a)) f h))
+        (ap stands it)
         (λ u r. fes_row u.up u (record { 0 = d.tx }) p row (subst (λ z. coordinator.Right u z.request z.answer) it r)) in
         laws.rows s.server.before (end_behind 0 s.server.before) s.ahead s.behind s.run.last (decided logs) d.tx d.number p row
         (subst (λ z. IsDecidedRead s.server.before (end_behind 0 s.server.before) s.ahead z s.behind s.run.last (decided logs) d.tx d.number) it s.read)
         ∙ ap (lookup p) s.rows
 
-    space_answer : (tx : Tx) (p : Space) (rows : List Stored) → x.request ≡ request.Scan tx p → x.answer ≡ answer.Rows rows → rows ≡ rows_under (path.Whole p) (rows_of x.node.0 (afters (family logs front) done))
+    space_answer : (tx : Tx) (p : Space) (rows : List Stored) → x.request ≡ request.Scan tx p → x.answer ≡ answer.Rows rows
+        → rows ≡ rows_under (path.Whole p) (rows_of x.node.0 (afters (family logs front) done))
     space_answer tx p rows e f =
         let w : (tx.0 ≡ d.tx) × IsOpen x.node.0 done = subst (Within d.tx done x.node.0) e here in
         let it : asked_by x ≡ space_read d.tx p rows = λ i. record { request = (e ∙ ap (λ n. request.Scan (record { 0 = n }) p) w.0) i; answer = f i } in
-        let s = stood_here (ap tx_asked e ∙ ap (λ n. Some n) w.0) w.1 (ap is_decide e) (λ h. false≢true (subst (λ a. IsTrue (tells_nothing a)) f h)) (ap stands it)
+        let s = stood_here (ap tx_asked e ∙ ap (λ n. Some n) w.0) w.1 (ap is_decide e) (λ h. false≢true (subst (λ a. IsTrue (tells_nothing a)) f h))
+        (ap stands it)
         (λ u r. fes_space u.up u (record { 0 = d.tx }) p rows (subst (λ z. coordinator.Right u z.request z.answer) it r)) in
         laws.spaces s.server.before (end_behind 0 s.server.before) s.ahead s.behind s.run.last (decided logs) d.tx d.number p rows
         (subst (λ z. IsDecidedRead s.server.before (end_behind 0 s.server.before) s.ahead z s.behind s.run.last (decided logs) d.tx d.number) it s.read)
@@ -240,8 +262,13 @@ module _ (laws : Laws) (base logs : Logs) (trails : Trails) (lists : List (List 
         → rows ≡ rows_under (path.Group p g) (rows_of x.node.0 (afters (family logs front) done))
     group_answer tx p g rows e f =
         let w : (tx.0 ≡ d.tx) × IsOpen x.node.0 done = subst (Within d.tx done x.node.0) e here in
-        let it : asked_by x ≡ group_read d.tx p g rows = λ i. record { request = (e ∙ ap (λ n. request.ScanGroup (record { 0 = n }) p g) w.0) i; answer = f i } in
-        let s = stood_here (ap tx_asked e ∙ ap (λ n. Some n) w.0) w.1 (ap is_decide e) (λ h. false≢true (subst (λ a. IsTrue (tells_nothing a)) f h)) (ap stands it)
+        let it : asked_by x ≡ group_read d.tx p g rows = λ i. record {
+          request = (e
+              ∙ ap (λ n. request.ScanGroup (record { 0 = n }) p g) w.0) i;
+          answer = f i;
+        } in
+        let s = stood_here (ap tx_asked e ∙ ap (λ n. Some n) w.0) w.1 (ap is_decide e) (λ h. false≢true (subst (λ a. IsTrue (tells_nothing a)) f h))
+        (ap stands it)
         (λ u r. fes_group u.up u (record { 0 = d.tx }) p g rows (subst (λ z. coordinator.Right u z.request z.answer) it r)) in
         laws.groups s.server.before (end_behind 0 s.server.before) s.ahead s.behind s.run.last (decided logs) d.tx d.number p g rows
         (subst (λ z. IsDecidedRead s.server.before (end_behind 0 s.server.before) s.ahead z s.behind s.run.last (decided logs) d.tx d.number) it s.read)

@@ -67,7 +67,8 @@ apart_each t [] e = tt
 apart_each t (p ∷ ps) e = (e.0, apart_each t ps e.1)
 
 -- the changes of the one vote of a transaction
-one_vote : (old : List Change) (t : ℕ) (cs : List Change) (ps : List Prepared) → AreApart (map (λ (p : Prepared). p.tx) ps) → Has (λ p. (p.tx ≡ t) × (p.changes ≡ cs)) ps → changes_or old t ps ≡ cs
+one_vote : (old : List Change) (t : ℕ) (cs : List Change) (ps : List Prepared) → AreApart (map (λ (p : Prepared). p.tx) ps)
+    → Has (λ p. (p.tx ≡ t) × (p.changes ≡ cs)) ps → changes_or old t ps ≡ cs
 one_vote old t cs [] a h = absurd h
 one_vote old t cs (p ∷ ps) a (inl h) =
     let u : (p.tx == t) ≡ true = subst (λ z. (p.tx == z) ≡ true) h.0 (same_number p.tx) in
@@ -92,7 +93,8 @@ pub record VotedIn (node : ℕ) (calls : List Call) : Type 0 where
   pub request_is : call.request ≡ request.Prepare tx
   pub answer_is : call.answer ≡ answer.Vote floor
 
-one_voted : (node : ℕ) (n : NodeName) (q : Request) (a : Answer) → Has (λ v. v.node.0 ≡ node) (vote_in n.0 q a) → VotedIn node (record { node = n; request = q; answer = a } ∷ [])
+one_voted : (node : ℕ) (n : NodeName) (q : Request) (a : Answer) → Has (λ v. v.node.0 ≡ node) (vote_in n.0 q a)
+    → VotedIn node (record { node = n; request = q; answer = a } ∷ [])
 one_voted node n (request.Prepare tx) (answer.Vote floor) (inl e) =
     record { call = record { node = n; request = request.Prepare tx; answer = answer.Vote floor }; within = inl refl; at_node = e; tx = tx; floor = floor; request_is = refl; answer_is = refl }
 one_voted node n (request.Prepare tx) (answer.Vote floor) (inr h) = absurd h
@@ -107,13 +109,16 @@ pub voted_in_calls : (node : ℕ) (calls : List Call) → Has (λ v. v.node.0 �
 voted_in_calls node [] h = absurd h
 voted_in_calls node (c ∷ cs) h = by (split_has (λ v. v.node.0 ≡ node) (vote_in c.node.0 c.request c.answer) (votes_in cs) h) (λ i. voted_in_calls node cs i)
   where
-    by : Has (λ v. v.node.0 ≡ node) (vote_in c.node.0 c.request c.answer) ⊎ Has (λ v. v.node.0 ≡ node) (votes_in cs) → (Has (λ v. v.node.0 ≡ node) (votes_in cs) → VotedIn node cs) → VotedIn node (c ∷ cs)
-    by (inl i) rest = let v = one_voted node c.node c.request c.answer i in record { call = v.call; within = first v.within; at_node = v.at_node; tx = v.tx; floor = v.floor; request_is = v.request_is; answer_is = v.answer_is }
+    by : Has (λ v. v.node.0 ≡ node) (vote_in c.node.0 c.request c.answer) ⊎ Has (λ v. v.node.0 ≡ node) (votes_in cs)
+        → (Has (λ v. v.node.0 ≡ node) (votes_in cs) → VotedIn node cs) → VotedIn node (c ∷ cs)
+    by (inl i) rest =
+        let v = one_voted node c.node c.request c.answer i in record { call = v.call; within = first v.within; at_node = v.at_node; tx = v.tx; floor = v.floor; request_is = v.request_is; answer_is = v.answer_is }
       where
         first : {z : Call} → IsIn z (c ∷ []) → IsIn z (c ∷ cs)
         first (inl e) = inl e
         first (inr h) = absurd h
-    by (inr i) rest = let v = rest i in record { call = v.call; within = inr v.within; at_node = v.at_node; tx = v.tx; floor = v.floor; request_is = v.request_is; answer_is = v.answer_is }
+    by (inr i) rest =
+        let v = rest i in record { call = v.call; within = inr v.within; at_node = v.at_node; tx = v.tx; floor = v.floor; request_is = v.request_is; answer_is = v.answer_is }
 
 pub vote_named : (node : ℕ) (votes : List Vote) → list_any (λ n. n.0 == node) (map (λ (v : Vote). v.node) votes) ≡ true → Has (λ v. v.node.0 ≡ node) votes
 vote_named node [] e = absurd (false≢true e)
@@ -123,18 +128,21 @@ vote_named node (v ∷ vs) e = by_test (v.node.0 == node) (λ t. inl (eqb-true v
 
 writes_append : (t : ℕ) (xs ys : List Asked) → writes_of t (xs ++ ys) ≡ writes_of t xs ++ writes_of t ys
 writes_append t [] ys = refl
-writes_append t (x ∷ xs) ys = ap (λ l. wrote t x.request x.answer ++ l) (writes_append t xs ys) ∙ sym (append_assoc (wrote t x.request x.answer) (writes_of t xs) (writes_of t ys))
+writes_append t (x ∷ xs) ys =
+    ap (λ l. wrote t x.request x.answer ++ l) (writes_append t xs ys) ∙ sym (append_assoc (wrote t x.request x.answer) (writes_of t xs) (writes_of t ys))
 
 no_write : (t : ℕ) (q : Request) (a : Answer) → ((tx : Tx) (c : Change) → q ≡ request.Write tx c → ⊥) → wrote t q a ≡ []
 no_write t (request.Write tx c) a n = absurd (n tx c refl)
 no_write t q a n = refl
 
-no_writes : (t node : ℕ) (calls : List Call) → ((f : List Call) (y : Call) (r : List Call) → calls ≡ f ++ y ∷ r → y.node.0 ≡ node → (tx : Tx) (c : Change) → y.request ≡ request.Write tx c → ⊥)
+no_writes : (t node : ℕ) (calls : List Call)
+    → ((f : List Call) (y : Call) (r : List Call) → calls ≡ f ++ y ∷ r → y.node.0 ≡ node → (tx : Tx) (c : Change) → y.request ≡ request.Write tx c → ⊥)
     → writes_of t (calls_at node calls) ≡ []
 no_writes t node [] n = refl
 no_writes t node (y ∷ ys) n =
     by_test (y.node.0 == node)
-    (λ u. rw u (ap (λ l. l ++ writes_of t (calls_at node ys)) (no_write t y.request y.answer (λ tx c e. n [] y ys refl (eqb-true y.node.0 node u) tx c e)) ∙ no_writes t node ys (λ f z r e. n (y ∷ f) z r (ap (λ l. y ∷ l) e))))
+    (λ u. rw u (ap (λ l. l ++ writes_of t (calls_at node ys)) (no_write t y.request y.answer (λ tx c e. n [] y ys refl (eqb-true y.node.0 node u) tx c e))
+    ∙ no_writes t node ys (λ f z r e. n (y ∷ f) z r (ap (λ l. y ∷ l) e))))
     (λ u. rw u (no_writes t node ys (λ f z r e. n (y ∷ f) z r (ap (λ l. y ∷ l) e))))
 
 pub record WriteLaws : Type 0 where
@@ -154,10 +162,14 @@ module _ (laws : Laws) (more : WriteLaws) (base logs : Logs) (trails : Trails) (
     one_more n = omega arith
 
     run : KeptRan before after trail
-    run = laws.servers base logs trails lists place before after trail k got_before got_after (subst (λ n. slice_get trails n ≡ Some trail) (one_more place) got_trail)
+    run =
+        laws.servers base logs trails lists place before after trail k got_before got_after
+        (subst (λ n. slice_get trails n ≡ Some trail) (one_more place) got_trail)
 
     agrees : HasVoted (place + 1) after d
-    agrees = in_Each (HasVoted (place + 1) after) d (decided logs) (is_decided laws base logs trails lists fes front back d k right at whole_is nd) (right.votes_and_outcomes.servers place after got_after).voted
+    agrees =
+        in_Each (HasVoted (place + 1) after) d (decided logs) (is_decided laws base logs trails lists fes front back d k right at whole_is nd)
+        (right.votes_and_outcomes.servers place after got_after).voted
 
     -- its vote at this server, among the calls before its Decide
     module _ (v : VotedIn (suc place) nd.is_decided.front) where
@@ -165,10 +177,13 @@ module _ (laws : Laws) (more : WriteLaws) (base logs : Logs) (trails : Trails) (
       s = stands_at v.call nd.is_decided.front v.within
 
       course_is : nd.owned.course ≡ s.front ++ v.call ∷ (s.back ++ nd.is_decided.decide ∷ nd.is_decided.back)
-      course_is = nd.is_decided.parts ∙ ap (λ l. l ++ nd.is_decided.decide ∷ nd.is_decided.back) s.parts ∙ append_assoc s.front (v.call ∷ s.back) (nd.is_decided.decide ∷ nd.is_decided.back)
+      course_is =
+          nd.is_decided.parts ∙ ap (λ l. l ++ nd.is_decided.decide ∷ nd.is_decided.back) s.parts
+          ∙ append_assoc s.front (v.call ∷ s.back) (nd.is_decided.decide ∷ nd.is_decided.back)
 
       at_vote : (v.tx.0 ≡ d.tx) × IsOpen v.call.node.0 s.front
-      at_vote = subst (Within d.tx s.front v.call.node.0) v.request_is (course_at s.front v.call (s.back ++ nd.is_decided.decide ∷ nd.is_decided.back) course_is)
+      at_vote =
+          subst (Within d.tx s.front v.call.node.0) v.request_is (course_at s.front v.call (s.back ++ nd.is_decided.decide ∷ nd.is_decided.back) course_is)
 
       it : asked_by v.call ≡ voted_as d.tx v.floor.0
       it = λ i. record { request = (v.request_is ∙ ap (λ n. request.Prepare (record { 0 = n })) at_vote.0) i; answer = v.answer_is i }
@@ -179,17 +194,20 @@ module _ (laws : Laws) (more : WriteLaws) (base logs : Logs) (trails : Trails) (
           no_writes d.tx (suc place) (v.call ∷ (s.back ++ nd.is_decided.decide ∷ nd.is_decided.back))
           (λ f y r e here tx c q. unwritten f y r e here tx c q)
         where
-          unwritten : (f : List Call) (y : Call) (r : List Call) → v.call ∷ (s.back ++ nd.is_decided.decide ∷ nd.is_decided.back) ≡ f ++ y ∷ r → y.node.0 ≡ suc place
+          unwritten : (f : List Call) (y : Call) (r : List Call) → v.call ∷ (s.back ++ nd.is_decided.decide ∷ nd.is_decided.back) ≡ f ++ y ∷ r
+              → y.node.0 ≡ suc place
               → (tx : Tx) (c : Change) → y.request ≡ request.Write tx c → ⊥
           unwritten [] y r e here tx c q = clash (heads v.call y (s.back ++ nd.is_decided.decide ∷ nd.is_decided.back) r e).0
             where
               clash : v.call ≡ y → ⊥
               clash p = false≢true (sym (ap is_prepare q) ∙ ap (λ z. is_prepare z.request) (sym p) ∙ ap is_prepare v.request_is)
           unwritten (z ∷ f) y r e here tx c q =
-              let w : (tx.0 ≡ d.tx) × IsOpen y.node.0 (s.front ++ z ∷ f) = subst (Within d.tx (s.front ++ z ∷ f) y.node.0) q (course_at (s.front ++ z ∷ f) y r (course_is ∙ ap (λ l. s.front ++ l) e ∙ sym (append_assoc s.front (z ∷ f) (y ∷ r)))) in
+              let w : (tx.0 ≡ d.tx) × IsOpen y.node.0 (s.front ++ z ∷ f) = subst (Within d.tx (s.front ++ z ∷ f) y.node.0) q
+              (course_at (s.front ++ z ∷ f) y r (course_is ∙ ap (λ l. s.front ++ l) e ∙ sym (append_assoc s.front (z ∷ f) (y ∷ r)))) in
               let first : z ≡ v.call = sym (heads v.call z (s.back ++ nd.is_decided.decide ∷ nd.is_decided.back) (f ++ y ∷ r) e).0 in
               let prepared : (v.call.node.0 ≡ y.node.0) × IsTrue (is_prepare v.call.request) = (v.at_node ∙ sym here, ap is_prepare v.request_is) in
-              w.1.unprepared (Has-in (AsksAt is_prepare y.node.0) v.call (s.front ++ z ∷ f) (subst (λ b. IsIn v.call (s.front ++ b ∷ f)) (sym first) (is_there v.call s.front f)) prepared)
+              w.1.unprepared (Has-in (AsksAt is_prepare y.node.0) v.call (s.front ++ z ∷ f)
+              (subst (λ b. IsIn v.call (s.front ++ b ∷ f)) (sym first) (is_there v.call s.front f)) prepared)
 
       writes : writes_of d.tx (calls_at (suc place) nd.owned.course) ≡ writes_of d.tx (calls_at (suc place) s.front)
       writes =
@@ -200,7 +218,8 @@ module _ (laws : Laws) (more : WriteLaws) (base logs : Logs) (trails : Trails) (
 
       -- the vote in the trail
       in_kept : filter (is_own d.tx) (kept trail)
-          ≡ filter (is_own d.tx) (calls_at (suc place) s.front) ++ asked_by v.call ∷ filter (is_own d.tx) (calls_at (suc place) (s.back ++ nd.is_decided.decide ∷ nd.is_decided.back))
+          ≡ filter (is_own d.tx) (calls_at (suc place) s.front) ++ asked_by v.call ∷ filter (is_own d.tx)
+          (calls_at (suc place) (s.back ++ nd.is_decided.decide ∷ nd.is_decided.back))
       in_kept =
           kept_twice (is_own d.tx) is_kept (wider laws base logs trails lists fes front back d k right at whole_is nd d.tx) (asked_of trail)
           ∙ nd.owned.in_trails (suc place) trail got_trail
@@ -218,26 +237,37 @@ module _ (laws : Laws) (more : WriteLaws) (base logs : Logs) (trails : Trails) (
 
       changes : ch after d.tx ≡ normal (writes_of d.tx (calls_at (suc place) s.front))
       changes =
-          let u = unkept (is_own d.tx) (kept trail) (filter (is_own d.tx) (calls_at (suc place) s.front)) (asked_by v.call) (filter (is_own d.tx) (calls_at (suc place) (s.back ++ nd.is_decided.decide ∷ nd.is_decided.back))) in_kept in
-          let ran : Ran before (end_behind 0 before) (u.front ++ voted_as d.tx v.floor.0 ∷ u.back) run.last = subst (λ z. Ran before (end_behind 0 before) (u.front ++ z ∷ u.back) run.last) it (subst (λ l. Ran before (end_behind 0 before) l run.last) u.parts run.ran) in
+          let u = unkept (is_own d.tx) (kept trail) (filter (is_own d.tx) (calls_at (suc place) s.front)) (asked_by v.call)
+          (filter (is_own d.tx) (calls_at (suc place) (s.back ++ nd.is_decided.decide ∷ nd.is_decided.back))) in_kept in
+          let ran : Ran before (end_behind 0 before) (u.front ++ voted_as d.tx v.floor.0 ∷ u.back) run.last = subst
+          (λ z. Ran before (end_behind 0 before) (u.front ++ z ∷ u.back) run.last) it
+          (subst (λ l. Ran before (end_behind 0 before) l run.last) u.parts run.ran) in
           let vote = more.votes before (end_behind 0 before) u.front u.back run.last d.tx v.floor.0 ran in
-          let same : writes_of d.tx u.front ≡ writes_of d.tx (calls_at (suc place) s.front) = sym (writes_filter d.tx u.front) ∙ ap (writes_of d.tx) u.before ∙ writes_filter d.tx (calls_at (suc place) s.front) in
+          let same : writes_of d.tx u.front ≡ writes_of d.tx (calls_at (suc place) s.front) = sym (writes_filter d.tx u.front) ∙ ap (writes_of d.tx) u.before
+          ∙ writes_filter d.tx (calls_at (suc place) s.front) in
           let says = more.says (whole before run.last) (more.log_kept before (end_behind 0 before) (kept trail) run.last run.ran) in
           let its : Has (λ (p : Prepared). (p.tx ≡ d.tx) × (p.changes ≡ normal (writes_of d.tx u.front))) (prepares (whole before run.last)) =
-          Has-of (λ (p : Prepared). (p.tx ≡ d.tx) × (p.floor ≡ v.floor.0) × (p.changes ≡ normal (writes_of d.tx u.front))) (λ p. (p.tx ≡ d.tx) × (p.changes ≡ normal (writes_of d.tx u.front))) (prepares (whole before run.last)) (λ p h. (h.0, h.2)) vote in
-          ap (λ l. ch l d.tx) run.log ∙ one_vote [] d.tx (normal (writes_of d.tx u.front)) (prepares (whole before run.last)) says.voted_once its ∙ ap normal same
+          Has-of (λ (p : Prepared). (p.tx ≡ d.tx) × (p.floor ≡ v.floor.0) × (p.changes ≡ normal (writes_of d.tx u.front)))
+          (λ p. (p.tx ≡ d.tx) × (p.changes ≡ normal (writes_of d.tx u.front))) (prepares (whole before run.last)) (λ p h. (h.0, h.2)) vote in
+          ap (λ l. ch l d.tx) run.log ∙ one_vote [] d.tx (normal (writes_of d.tx u.front)) (prepares (whole before run.last)) says.voted_once its
+          ∙ ap normal same
 
     -- where it voted, its changes are its writes there
-    when_named : IsTrue (names_node (place + 1) d) → put_all (held after front) (writes_of d.tx (calls_at (suc place) nd.owned.course)) ≡ put_all (held after front) (ch after d.tx)
+    when_named : IsTrue (names_node (place + 1) d)
+        → put_all (held after front) (writes_of d.tx (calls_at (suc place) nd.owned.course)) ≡ put_all (held after front) (ch after d.tx)
     when_named n =
         let v : VotedIn (suc place) nd.is_decided.front =
         voted_in_calls (suc place) nd.is_decided.front
         (subst (Has (λ v. v.node.0 ≡ suc place)) nd.is_decided.told
-        (subst (λ m. Has (λ v. v.node.0 ≡ m) nd.is_decided.votes) (sym (one_more place)) (vote_named (place + 1) nd.is_decided.votes (ap (list_any (λ n. n.0 == (place + 1))) nd.is_decided.nodes ∙ n)))) in
-        ap (put_all (held after front)) (writes v) ∙ sym (put_normal (held after front) (writes_of d.tx (calls_at (suc place) (s v).front)) (held_ascends after front)) ∙ ap (put_all (held after front)) (sym (changes v))
+        (subst (λ m. Has (λ v. v.node.0 ≡ m) nd.is_decided.votes) (sym (one_more place))
+        (vote_named (place + 1) nd.is_decided.votes (ap (list_any (λ n. n.0 == (place + 1))) nd.is_decided.nodes ∙ n)))) in
+        ap (put_all (held after front)) (writes v)
+        ∙ sym (put_normal (held after front) (writes_of d.tx (calls_at (suc place) (s v).front)) (held_ascends after front))
+        ∙ ap (put_all (held after front)) (sym (changes v))
 
     -- where it didn't, it wrote nothing
-    when_not : names_node (place + 1) d ≡ false → put_all (held after front) (writes_of d.tx (calls_at (suc place) nd.owned.course)) ≡ put_all (held after front) (ch after d.tx)
+    when_not : names_node (place + 1) d ≡ false
+        → put_all (held after front) (writes_of d.tx (calls_at (suc place) nd.owned.course)) ≡ put_all (held after front) (ch after d.tx)
     when_not n = ap (put_all (held after front)) (none ∙ sym (others [] d.tx (prepares after) (not_has (prepares after) (λ h. not_prepared h))))
       where
         not_prepared : HasPrepared after d → ⊥
@@ -252,13 +282,16 @@ module _ (laws : Laws) (more : WriteLaws) (base logs : Logs) (trails : Trails) (
             no_writes d.tx (suc place) nd.owned.course
             (λ f y r e here tx c q. let w : (tx.0 ≡ d.tx) × IsOpen y.node.0 f = subst (Within d.tx f y.node.0) q (course_at f y r e) in
             let early = before_decide d.tx nd.owned.course nd.is_decided.front nd.is_decided.decide nd.is_decided.back f y r nd.is_decided.parts nd.is_decided.nothing_behind e
-            (ap tx_asked q ∙ ap (λ n. Some n) w.0) (λ p. false≢true (sym (ap is_decide q) ∙ ap (λ z. is_decide z.request) p ∙ ap is_decide nd.is_decided.asked)) in
-            let asked : HasAskedAt is_enlist y.node.0 nd.is_decided.front = subst (HasAskedAt is_enlist y.node.0) (sym early.parts) (Has-front (AsksAt is_enlist y.node.0) f (y ∷ early.more) w.1.enlisted) in
+            (ap tx_asked q ∙ ap (λ n. Some n) w.0)
+            (λ p. false≢true (sym (ap is_decide q) ∙ ap (λ z. is_decide z.request) p ∙ ap is_decide nd.is_decided.asked)) in
+            let asked : HasAskedAt is_enlist y.node.0 nd.is_decided.front = subst (HasAskedAt is_enlist y.node.0) (sym early.parts)
+            (Has-front (AsksAt is_enlist y.node.0) f (y ∷ early.more) w.1.enlisted) in
             not_prepared (voted_at laws base logs trails lists fes front back d k right at whole_is nd y.node.0 place after here got_after asked))
 
     at_place : rows_in place (afters (family logs front) nd.owned.course) ≡ rows_in place (family logs (front ++ d ∷ []))
     at_place =
-        rows_behind laws base logs trails lists fes front back d k right at whole_is nd place after nd.owned.course [] got_after (sym (append-nil nd.owned.course))
+        rows_behind laws base logs trails lists fes front back d k right at whole_is nd place after nd.owned.course [] got_after
+        (sym (append-nil nd.owned.course))
         ∙ by_test (names_node (place + 1) d) (λ t. when_named t) (λ f. when_not f)
         ∙ sym (held-more after front d) ∙ sym (rows_in_map (λ log. held log (front ++ d ∷ [])) logs.servers place after got_after)
 
@@ -274,7 +307,8 @@ module _ (laws : Laws) (more : WriteLaws) (base logs : Logs) (trails : Trails) (
   after_is =
       same_family (afters (family logs front) nd.owned.course) (family logs (front ++ d ∷ []))
       (afters_length (family logs front) nd.owned.course ∙ same_length (λ log. held log front) (λ log. held log (front ++ d ∷ [])) logs.servers)
-      (λ i lt. let n : length (afters (family logs front) nd.owned.course) ≡ length logs.servers = afters_length (family logs front) nd.owned.course ∙ map_within (λ log. held log front) logs.servers in
+      (λ i lt. let n : length (afters (family logs front) nd.owned.course) ≡ length logs.servers = afters_length (family logs front) nd.owned.course
+      ∙ map_within (λ log. held log front) logs.servers in
       let same : length logs.servers ≡ length base.servers = k.nodes.same in
       let all : length trails ≡ length base.servers + 1 = k.nodes.nodes in
       let after = got logs.servers i (omega (arith, lt, n)) in

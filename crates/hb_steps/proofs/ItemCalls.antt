@@ -69,7 +69,8 @@ calls_with (i ∷ is) = own_one i is (is_idle i) refl ∙ ap (λ l. i.calls ++ l
 
 -- ---- fronts
 
-pub either_front : (xs ys us vs : List Call) → xs ++ ys ≡ us ++ vs → ((m : List Call) × (xs ≡ us ++ m) × (vs ≡ m ++ ys)) ⊎ ((m : List Call) × (us ≡ xs ++ m) × (ys ≡ m ++ vs))
+pub either_front : (xs ys us vs : List Call) → xs ++ ys ≡ us ++ vs
+    → ((m : List Call) × (xs ≡ us ++ m) × (vs ≡ m ++ ys)) ⊎ ((m : List Call) × (us ≡ xs ++ m) × (ys ≡ m ++ vs))
 either_front [] ys us vs e = inr (us, refl, e)
 either_front (x ∷ xs) ys [] vs e = inl (x ∷ xs, refl, sym e)
 either_front (x ∷ xs) ys (u ∷ us) vs e = by (heads x u (xs ++ ys) (us ++ vs) e) (either_front xs ys us vs (heads x u (xs ++ ys) (us ++ vs) e).1)
@@ -103,13 +104,15 @@ goes_on : (course after xs ys : List Call) → course ++ after ≡ xs ++ ys → 
 goes_on course after xs ys e none next = by (either_front course after xs ys e)
   where
     whole : (m : List Call) → xs ≡ course ++ m → after ≡ m ++ ys → m ≡ [] → GoesOn course after xs ys
-    whole m p q n = record { rest = []; parts = sym (p ∙ ap (λ l. course ++ l) n ∙ append-nil course) ∙ sym (append-nil xs); behind = sym (q ∙ ap (λ l. l ++ ys) n) }
+    whole m p q n =
+        record { rest = []; parts = sym (p ∙ ap (λ l. course ++ l) n ∙ append-nil course) ∙ sym (append-nil xs); behind = sym (q ∙ ap (λ l. l ++ ys) n) }
 
     nil_of : (m ys : List Call) → [] ≡ m ++ ys → m ≡ []
     nil_of [] ys h = refl
     nil_of (x ∷ m) ys h = cc
 
-    nothing : (m : List Call) → xs ≡ course ++ m → after ≡ m ++ ys → (after ≡ []) ⊎ ((c : Call) × (more : List Call) × (after ≡ c ∷ more) × (begins_of (c ∷ []) ≢ [])) → m ≡ []
+    nothing : (m : List Call) → xs ≡ course ++ m → after ≡ m ++ ys
+        → (after ≡ []) ⊎ ((c : Call) × (more : List Call) × (after ≡ c ∷ more) × (begins_of (c ∷ []) ≢ [])) → m ≡ []
     nothing m p q (inl n) = nil_of m ys (sym n ∙ q)
     nothing [] p q (inr n) = refl
     nothing (x ∷ m) p q (inr n) =
@@ -122,7 +125,8 @@ goes_on course after xs ys e none next = by (either_front course after xs ys e)
 
 -- ---- behind the items
 
-over_none : (t : ℕ) (back : List Item) (f : List Call) (y : Call) (r : List Call) → IsOver t back → calls_of back ≡ f ++ y ∷ r → begins_of f ≡ [] → tx_asked y.request ≡ Some t → ⊥
+over_none : (t : ℕ) (back : List Item) (f : List Call) (y : Call) (r : List Call) → IsOver t back → calls_of back ≡ f ++ y ∷ r → begins_of f ≡ []
+    → tx_asked y.request ≡ Some t → ⊥
 over_none t [] f y r o e n q = nil f e
   where
     nil : (f : List Call) → [] ≡ f ++ y ∷ r → ⊥
@@ -159,8 +163,10 @@ rowless_afters fs (x ∷ xs) ys e = ap (λ f. afters f (xs ++ ys)) (same_one x.n
 
 rowless_answers : (fs : Family) (xs ys : List Call) → AreRowless xs → AnswersOf fs ys → AnswersOf fs (xs ++ ys)
 rowless_answers fs [] ys e a = a
-rowless_answers fs (x ∷ xs) ys e a =
-    (answer_one (rows_of x.node.0 fs) x.request x.answer e.0, subst (λ f. AnswersOf f (xs ++ ys)) (sym (same_one x.node.0 x.request x.answer fs e.0)) (rowless_answers fs xs ys e.1 a))
+rowless_answers fs (x ∷ xs) ys e a = (
+  answer_one (rows_of x.node.0 fs) x.request x.answer e.0,
+  subst (λ f. AnswersOf f (xs ++ ys)) (sym (same_one x.node.0 x.request x.answer fs e.0)) (rowless_answers fs xs ys e.1 a),
+)
 
 answers_front : (fs : Family) (xs ys : List Call) → AnswersOf fs (xs ++ ys) → AnswersOf fs xs
 answers_front fs [] ys h = tt
@@ -198,12 +204,15 @@ begins_some a t h = absurd (nil_cons t h)
 -- ---- the items
 
 module _ (ta : TransactionsAscend) (base logs : Logs) (trails : Trails) (lists : List (List Item)) (txns : List Txn) (fes : List Labelled) (front : List Decided) (d : Decided)
-    (it : Itemed base logs trails lists txns) (at : slice_get trails 0 ≡ Some fes) (nd : IsNewDecision trails (map calls_of lists) fes d) (fam : OneFamily logs front d nd.owned.course) where
+    (it : Itemed base logs trails lists txns) (at : slice_get trails 0 ≡ Some fes) (nd : IsNewDecision trails (map calls_of lists) fes d)
+    (fam : OneFamily logs front d nd.owned.course) where
   its : (x : List Item) × (slice_get lists nd.owned.caller ≡ Some x) × (calls_of x ≡ nd.owned.list)
   its = got_map calls_of lists nd.owned.caller nd.owned.list nd.owned.its_list
 
   begun_there : IsIn d.tx (begins_of nd.owned.list)
-  begun_there = subst (λ l. IsIn d.tx (begins_of l)) (sym nd.owned.parts) (has_begin d.tx nd.owned.before nd.owned.begin (nd.owned.course ++ nd.owned.after) nd.owned.begun)
+  begun_there =
+      subst (λ l. IsIn d.tx (begins_of l)) (sym nd.owned.parts)
+      (has_begin d.tx nd.owned.before nd.owned.begin (nd.owned.course ++ nd.owned.after) nd.owned.begun)
 
   txn : (t : Txn) × IsIn t txns × (t.tx ≡ d.tx)
   txn =
@@ -230,11 +239,16 @@ module _ (ta : TransactionsAscend) (base logs : Logs) (trails : Trails) (lists :
 
     pub list_is : calls_of (x.front ++ x.stretch ++ x.back) ≡ (calls_of x.front ++ pre) ++ b ∷ (own ++ behind)
     list_is =
-        calls_append (x.front ++ x.stretch) x.back ∙ ap (λ l. l ++ behind) (calls_append x.front x.stretch ∙ ap (λ l. calls_of x.front ++ l) (stretch_is ∙ ap (λ l. l ++ calls_of x.others) x.begins.parts))
-        ∙ append_assoc (calls_of x.front) ((pre ++ b ∷ x.begins.more) ++ calls_of x.others) behind ∙ shape (calls_of x.front) pre b x.begins.more (calls_of x.others) behind
+        calls_append (x.front ++ x.stretch) x.back
+        ∙ ap (λ l. l ++ behind) (calls_append x.front x.stretch
+        ∙ ap (λ l. calls_of x.front ++ l) (stretch_is ∙ ap (λ l. l ++ calls_of x.others) x.begins.parts))
+        ∙ append_assoc (calls_of x.front) ((pre ++ b ∷ x.begins.more) ++ calls_of x.others) behind
+        ∙ shape (calls_of x.front) pre b x.begins.more (calls_of x.others) behind
       where
         shape : (f p : List Call) (c : Call) (m o z : List Call) → f ++ (((p ++ c ∷ m) ++ o) ++ z) ≡ (f ++ p) ++ c ∷ ((m ++ o) ++ z)
-        shape f p c m o z = ap (λ l. f ++ (l ++ z)) (append_assoc p (c ∷ m) o) ∙ ap (λ l. f ++ l) (append_assoc p (c ∷ (m ++ o)) z) ∙ sym (append_assoc f p (c ∷ ((m ++ o) ++ z)))
+        shape f p c m o z =
+            ap (λ l. f ++ (l ++ z)) (append_assoc p (c ∷ m) o) ∙ ap (λ l. f ++ l) (append_assoc p (c ∷ (m ++ o)) z)
+            ∙ sym (append_assoc f p (c ∷ ((m ++ o) ++ z)))
 
     its_list : slice_get (map calls_of lists) (caller_of t.owner) ≡ Some (calls_of (x.front ++ x.stretch ++ x.back))
     its_list = map_got calls_of lists (caller_of t.owner) (x.front ++ x.stretch ++ x.back) x.parts
@@ -248,12 +262,14 @@ module _ (ta : TransactionsAscend) (base logs : Logs) (trails : Trails) (lists :
     same_list : nd.owned.list ≡ calls_of (x.front ++ x.stretch ++ x.back)
     same_list =
         same_got (map calls_of lists) nd.owned.caller (caller_of t.owner) nd.owned.list (calls_of (x.front ++ x.stretch ++ x.back)) nd.owned.its_list its_list
-        (same_caller ta base logs trails (map calls_of lists) it.callings fes at nd.owned.caller (caller_of t.owner) d.tx nd.owned.list (calls_of (x.front ++ x.stretch ++ x.back)) nd.owned.its_list its_list begun_there begun_here)
+        (same_caller ta base logs trails (map calls_of lists) it.callings fes at nd.owned.caller (caller_of t.owner) d.tx nd.owned.list
+        (calls_of (x.front ++ x.stretch ++ x.back)) nd.owned.its_list its_list begun_there begun_here)
 
     tails : nd.owned.course ++ nd.owned.after ≡ own ++ behind
     tails =
         one_begin d.tx nd.owned.before nd.owned.begin (nd.owned.course ++ nd.owned.after) (calls_of x.front ++ pre) b (own ++ behind) nd.owned.begun begun_b
-        (subst (λ l. Ascends nat_cmp (begins_of l)) nd.owned.parts (begins_ascend ta base logs trails (map calls_of lists) it.callings fes at nd.owned.caller nd.owned.list nd.owned.its_list))
+        (subst (λ l. Ascends nat_cmp (begins_of l)) nd.owned.parts
+        (begins_ascend ta base logs trails (map calls_of lists) it.callings fes at nd.owned.caller nd.owned.list nd.owned.its_list))
         (sym nd.owned.parts ∙ same_list ∙ list_is)
 
     others_none : (u : ℕ) (before : List Call) (is : List Item) → AllAsk u before is → begins_of (calls_of is) ≡ []
@@ -262,7 +278,9 @@ module _ (ta : TransactionsAscend) (base logs : Logs) (trails : Trails) (lists :
         begins_append i.calls (calls_of is) ∙ ap (λ l. l ++ begins_of (calls_of is)) a.0.0 ∙ others_none u (before ++ i.calls) is a.1
 
     own_none : begins_of own ≡ []
-    own_none = begins_append x.begins.more (calls_of x.others) ∙ ap (λ l. l ++ begins_of (calls_of x.others)) x.begins.none_behind ∙ others_none t.tx x.first.calls x.others x.asked
+    own_none =
+        begins_append x.begins.more (calls_of x.others) ∙ ap (λ l. l ++ begins_of (calls_of x.others)) x.begins.none_behind
+        ∙ others_none t.tx x.first.calls x.others x.asked
 
     on : GoesOn nd.owned.course nd.owned.after own behind
     on = goes_on nd.owned.course nd.owned.after own behind tails own_none nd.owned.next
@@ -270,7 +288,8 @@ module _ (ta : TransactionsAscend) (base logs : Logs) (trails : Trails) (lists :
     rest_none : AskNone d.tx on.rest
     rest_none =
         each_part (λ c. tx_asked c.request ≡ Some d.tx → ⊥) on.rest
-        (λ f y r e q. over_none t.tx x.back f y (r ++ nd.owned.after) x.over (on.behind ∙ ap (λ l. l ++ nd.owned.after) e ∙ append_assoc f (y ∷ r) nd.owned.after)
+        (λ f y r e q. over_none t.tx x.back f y (r ++ nd.owned.after) x.over
+        (on.behind ∙ ap (λ l. l ++ nd.owned.after) e ∙ append_assoc f (y ∷ r) nd.owned.after)
         (front_none f (y ∷ r) (sym (ap begins_of e) ∙ back_none own on.rest (sym (ap begins_of on.parts) ∙ nd.owned.alone))) (q ∙ ap (λ z. Some z) (sym of_tx)))
 
     items_are : calls_of t.items ≡ pre ++ b ∷ own
@@ -279,7 +298,9 @@ module _ (ta : TransactionsAscend) (base logs : Logs) (trails : Trails) (lists :
     b_begins : IsTrue (is_begin b.request)
     b_begins =
         let member : IsIn b nd.owned.list = subst (IsIn b) (sym (same_list ∙ list_is)) (is_there b (calls_of x.front ++ pre) (own ++ behind)) in
-        ((in_Each IsOfSystem b nd.owned.list member (each_got (λ l. Each IsOfSystem l) (map calls_of lists) nd.owned.caller nd.owned.list it.callings.system nd.owned.its_list)).begins (begins_some b.answer d.tx begun_b)).1
+        ((in_Each IsOfSystem b nd.owned.list member
+        (each_got (λ l. Each IsOfSystem l) (map calls_of lists) nd.owned.caller nd.owned.list it.callings.system nd.owned.its_list)).begins
+        (begins_some b.answer d.tx begun_b)).1
 
     decided_calls : AreDecidedCalls d (calls_of t.items)
     decided_calls = by (in_of own on.rest nd.is_decided.front nd.is_decided.decide nd.is_decided.back (sym on.parts ∙ nd.is_decided.parts))
@@ -300,11 +321,15 @@ module _ (ta : TransactionsAscend) (base logs : Logs) (trails : Trails) (lists :
 
         undone : HasAsked is_undoing (pre ++ b ∷ nd.is_decided.front) → ⊥
         undone h =
-            elim (split_undone pre (b ∷ nd.is_decided.front) h)
-            [ inl p ↦ apart_none pre x.begins.apart p | inr q ↦ elim q [ inl p ↦ false≢true (sym (begin_plain b.request b_begins).1 ∙ p) | inr p ↦ nd.is_decided.not_undone p ] ]
+            elim (split_undone pre (b ∷ nd.is_decided.front) h) [
+              | inl p ↦ apart_none pre x.begins.apart p
+              | inr q ↦ elim q [ inl p ↦ false≢true (sym (begin_plain b.request b_begins).1 ∙ p) | inr p ↦ nd.is_decided.not_undone p ]
+            ]
 
         by : InOf own on.rest nd.is_decided.front nd.is_decided.decide nd.is_decided.back → AreDecidedCalls d (calls_of t.items)
-        by (second done p q) = absurd (in_Each (λ c. tx_asked c.request ≡ Some d.tx → ⊥) nd.is_decided.decide on.rest (subst (IsIn nd.is_decided.decide) (sym q) (is_there nd.is_decided.decide done nd.is_decided.back)) rest_none (ap tx_asked nd.is_decided.asked))
+        by (second done p q) =
+            absurd (in_Each (λ c. tx_asked c.request ≡ Some d.tx → ⊥) nd.is_decided.decide on.rest
+            (subst (IsIn nd.is_decided.decide) (sym q) (is_there nd.is_decided.decide done nd.is_decided.back)) rest_none (ap tx_asked nd.is_decided.asked))
         by (first more p q) =
             record {
               front = pre ++ b ∷ nd.is_decided.front;
@@ -333,19 +358,23 @@ module _ (ta : TransactionsAscend) (base logs : Logs) (trails : Trails) (lists :
     rest_rowless =
         each_part (λ c. is_of_rows c.request ≡ false) on.rest
         (λ f y r e. not_rows d.tx (own ++ f) y.node.0 y.request
-        (behind_at (λ g z. Within d.tx g z.node.0 z.request) [] (own ++ f) y r (subst (IsCourse d.tx) (on.parts ∙ ap (λ l. own ++ l) e ∙ sym (append_assoc own f (y ∷ r))) nd.owned.is_course))
+        (behind_at (λ g z. Within d.tx g z.node.0 z.request) [] (own ++ f) y r
+        (subst (IsCourse d.tx) (on.parts ∙ ap (λ l. own ++ l) e ∙ sym (append_assoc own f (y ∷ r))) nd.owned.is_course))
         (in_Each (λ c. tx_asked c.request ≡ Some d.tx → ⊥) y on.rest (subst (IsIn y) (sym e) (is_there y f r)) rest_none))
 
     one_family : OneFamily logs front d (calls_of t.items)
     one_family =
         let shape : calls_of t.items ≡ (pre ++ b ∷ []) ++ own = items_are ∙ sym (append_assoc pre (b ∷ []) own) in
-        let here : AnswersOf (family logs front) own = answers_front (family logs front) own on.rest (subst (AnswersOf (family logs front)) on.parts fam.answers) in
-        let rest_same : afters (afters (family logs front) own) (on.rest ++ []) ≡ afters (afters (family logs front) own) [] = rowless_afters (afters (family logs front) own) on.rest [] rest_rowless in
+        let here : AnswersOf (family logs front) own = answers_front (family logs front) own on.rest
+        (subst (AnswersOf (family logs front)) on.parts fam.answers) in
+        let rest_same : afters (afters (family logs front) own) (on.rest ++ []) ≡ afters (afters (family logs front) own) [] = rowless_afters
+        (afters (family logs front) own) on.rest [] rest_rowless in
         record {
           answers = subst (AnswersOf (family logs front)) (sym shape) (rowless_answers (family logs front) (pre ++ b ∷ []) own front_rowless here);
           after =
               ap (afters (family logs front)) shape ∙ rowless_afters (family logs front) (pre ++ b ∷ []) own front_rowless
-              ∙ sym (ap (afters (afters (family logs front) own)) (sym (append-nil on.rest)) ∙ rest_same) ∙ sym (afters_append (family logs front) own on.rest) ∙ ap (afters (family logs front)) (sym on.parts) ∙ fam.after;
+              ∙ sym (ap (afters (afters (family logs front) own)) (sym (append-nil on.rest)) ∙ rest_same)
+              ∙ sym (afters_append (family logs front) own on.rest) ∙ ap (afters (family logs front)) (sym on.parts) ∙ fam.after;
         }
 
     pub has_items : HasItems logs txns front d t

@@ -41,12 +41,14 @@ in_of (x ∷ xs) ys (f ∷ fs) c back e = by (heads x f (xs ++ ys) (fs ++ c ∷ 
 
 -- ---- what an item decides, and what it undoes
 
-faithful_of : (back_ends : ℕ) (spent : Spent) (st : Statement) (calls : List Call) (r : Reply) → (st ≡ statement.Commit → ⊥) → IsRightStatement back_ends spent st calls (Some r)
+faithful_of : (back_ends : ℕ) (spent : Spent) (st : Statement) (calls : List Call) (r : Reply) → (st ≡ statement.Commit → ⊥)
+    → IsRightStatement back_ends spent st calls (Some r)
     → (full : Bool) × Faithful back_ends spent full st calls r
 faithful_of back_ends spent statement.Commit calls r n h = absurd (n refl)
 faithful_of back_ends spent st calls r n h = h
 
-undecided_of : (back_ends : ℕ) (spent : Spent) (st : Statement) (calls : List Call) (o : Option Reply) → (st ≡ statement.Commit → ⊥) → IsRightStatement back_ends spent st calls o → ¬ (HasAsked is_decide calls)
+undecided_of : (back_ends : ℕ) (spent : Spent) (st : Statement) (calls : List Call) (o : Option Reply) → (st ≡ statement.Commit → ⊥)
+    → IsRightStatement back_ends spent st calls o → ¬ (HasAsked is_decide calls)
 undecided_of back_ends spent statement.Commit calls o n h = absurd (n refl)
 undecided_of back_ends spent st calls (Some r) n h = h.1.undecided
 undecided_of back_ends spent st calls None n h = h.0
@@ -60,7 +62,8 @@ commit_or_not statement.Commit = inl refl
 commit_or_not st = inr (λ e. false≢true (ap is_commit e))
 
 -- an item of a decision is a COMMIT
-decides : (back_ends : ℕ) (spent : Spent) (place : ℕ) (w : Doing) (calls : List Call) (lines : List Reply) → IsRightItem back_ends spent (record { place = place; doing = w; calls = calls; lines = lines })
+decides : (back_ends : ℕ) (spent : Spent) (place : ℕ) (w : Doing) (calls : List Call) (lines : List Reply)
+    → IsRightItem back_ends spent (record { place = place; doing = w; calls = calls; lines = lines })
     → IsOfStatements w → HasAsked is_decide calls → w ≡ sql statement.Commit
 decides back_ends spent place (sql st) calls lines r s h =
     elim (commit_or_not st) [ inl e ↦ ap sql e | inr n ↦ absurd (undecided_of back_ends spent st calls (reply_in lines) n r h) ]
@@ -88,13 +91,15 @@ undone_too r e = e
 not_outside : (x : Reply) → (IsTrue (says_undone x) → ⊥) → IsTrue (not (is_outside x))
 not_outside x n = by_test (is_outside x) (λ t. absurd (n (undone_too x t))) (λ f. rw f refl)
 
-plain_inside : (back_ends : ℕ) (spent : Spent) (st : Statement) (calls : List Call) (x : Reply) → IsRightStatement back_ends spent st calls (Some x) → ¬ (HasAsked is_undoing calls)
+plain_inside : (back_ends : ℕ) (spent : Spent) (st : Statement) (calls : List Call) (x : Reply) → IsRightStatement back_ends spent st calls (Some x)
+    → ¬ (HasAsked is_undoing calls)
     → Each (λ r. IsTrue (not (is_outside r))) (replies_to (sql st) (x ∷ []))
 plain_inside back_ends spent statement.Commit calls x r un = tt
 plain_inside back_ends spent st calls x r un = (not_outside x (λ u. un (r.1.undone u)), tt)
 
 -- where nothing was undone, no reply is an outside one
-inside : (back_ends : ℕ) (spent : Spent) (place : ℕ) (w : Doing) (calls : List Call) (lines : List Reply) → IsRightItem back_ends spent (record { place = place; doing = w; calls = calls; lines = lines })
+inside : (back_ends : ℕ) (spent : Spent) (place : ℕ) (w : Doing) (calls : List Call) (lines : List Reply)
+    → IsRightItem back_ends spent (record { place = place; doing = w; calls = calls; lines = lines })
     → length lines ≡ 1 → ¬ (HasAsked is_undoing calls) → Each (λ r. IsTrue (not (is_outside r))) (replies_to w lines)
 inside back_ends spent place (sql st) calls [] r e un = absurd (omega (arith, e))
 inside back_ends spent place (sql st) calls (x ∷ y ∷ zs) r e un = absurd (omega (arith, e))
@@ -137,18 +142,21 @@ module _ (back_ends t : ℕ) where
         commits = e;
       }
 
-  has_decide : (calls front : List Call) (decide : Call) (more : List Call) → calls ≡ front ++ decide ∷ more → IsTrue (is_decide decide.request) → HasAsked is_decide calls
+  has_decide : (calls front : List Call) (decide : Call) (more : List Call) → calls ≡ front ++ decide ∷ more → IsTrue (is_decide decide.request)
+      → HasAsked is_decide calls
   has_decide calls front decide more p d =
       subst (HasAsked is_decide) (sym p) (Has-in (λ c. IsTrue (is_decide c.request)) decide (front ++ decide ∷ more) (is_there decide front more) d)
 
   -- these items, behind the calls of those before
-  through : (past : List Call) (i : Item) (is : List Item) (spent : Spent) (front : List Call) (decide : Call) (back : List Call) → AreRight back_ends spent (i ∷ is)
+  through : (past : List Call) (i : Item) (is : List Item) (spent : Spent) (front : List Call) (decide : Call) (back : List Call)
+      → AreRight back_ends spent (i ∷ is)
       → Each (λ j. IsOfStatements j.doing) (i ∷ is) → AllAnswered (i ∷ is) → AllAsk t (past ++ i.calls) is → calls_of (i ∷ is) ≡ front ++ decide ∷ back
       → IsTrue (is_decide decide.request) → ¬ (HasAsked is_undoing front) → AskNone t back → Through (i ∷ is)
   through past i [] spent front decide back right kinds answered asks e d un none = here (in_of i.calls [] front decide back e)
     where
       here : InOf i.calls [] front decide back → Through (i ∷ [])
-      here (first more p q) = commit_is_last i (decides back_ends spent i.place i.doing i.calls i.lines right.0 kinds.0 (has_decide i.calls front decide more p d))
+      here (first more p q) =
+          commit_is_last i (decides back_ends spent i.place i.doing i.calls i.lines right.0 kinds.0 (has_decide i.calls front decide more p d))
       here (second done p q) = absurd (nil_is done decide back q)
   through past i (j ∷ js) spent front decide back right kinds answered asks e d un none =
       here (in_of i.calls (calls_of (j ∷ js)) front decide back e)
@@ -172,11 +180,13 @@ module _ (back_ends t : ℕ) where
           record {
             replied = (replied i.doing i.lines kinds.0 answered.0, r.replied);
             inside = each_append (λ x. IsTrue (not (is_outside x))) (replies_to i.doing i.lines) (replies_of (j ∷ js))
-                (inside back_ends spent i.place i.doing i.calls i.lines right.0 answered.0 (λ h. un (subst (HasAsked is_undoing) (sym p) (Has-front (λ c. IsTrue (is_undoing c.request)) i.calls done h)))) r.inside;
+                (inside back_ends spent i.place i.doing i.calls i.lines right.0 answered.0
+                (λ h. un (subst (HasAsked is_undoing) (sym p) (Has-front (λ c. IsTrue (is_undoing c.request)) i.calls done h)))) r.inside;
             commits = r.commits;
           }
 
 pub run_through : DecidedRunThrough
 run_through back_ends d i is right kinds answered asks c =
-    let h = through back_ends d.tx [] i is nothing_spent c.front c.decide c.back right kinds answered asks c.parts (ap is_decide c.asked) c.not_undone c.nothing_behind in
+    let h = through back_ends d.tx [] i is nothing_spent c.front c.decide c.back right kinds answered asks c.parts
+    (ap is_decide c.asked) c.not_undone c.nothing_behind in
     (record { statements = kinds; right = right; answered = answered; replied = h.replied; inside = h.inside }, h.commits)

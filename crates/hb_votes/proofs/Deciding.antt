@@ -26,7 +26,8 @@ use Rattle.hb_whose.proofs.Parts.{behind_at, each_part, is_there, none_some, sta
 use Rattle.hb_whose.proofs.Trailing.{in_calls_at, own_of}
 
 -- behind a Decide that stands or may stand nothing is asked of the transaction
-asks_nothing : (t : ℕ) (front : List Call) (node : ℕ) (q : Request) → HasAsked is_decide front → MayBeDecided front → tx_asked q ≡ Some t → Within t front node q → ⊥
+asks_nothing : (t : ℕ) (front : List Call) (node : ℕ) (q : Request) → HasAsked is_decide front → MayBeDecided front → tx_asked q ≡ Some t
+    → Within t front node q → ⊥
 asks_nothing t front node (request.Enlist tx) d m e w = w.1.undecided d
 asks_nothing t front node (request.Lock tx a b) d m e w = w.1.undecided d
 asks_nothing t front node (request.Read tx a) d m e w = w.1.undecided d
@@ -38,12 +39,21 @@ asks_nothing t front node (request.Decide tx votes) d m e w = w.1.undecided d
 asks_nothing t front node (request.Abort tx) d m e w = w.1 m
 asks_nothing t front node q d m e w = none_some t e
 
-pub stood : (a : Asked) (t n : ℕ) (votes : List Vote) → a.request ≡ request.Decide (record { 0 = t }) votes → (a.answer ≡ answer.Decided (record { 0 = n })) ⊎ (a.answer ≡ answer.Fault false)
+pub stood : (a : Asked) (t n : ℕ) (votes : List Vote) → a.request ≡ request.Decide (record { 0 = t }) votes
+    → (a.answer ≡ answer.Decided (record { 0 = n })) ⊎ (a.answer ≡ answer.Fault false)
     → (stands a ≡ true) × IsTrue (is_settled a.answer)
 stood a t n votes q (inl h) =
-    let it : a ≡ record { request = request.Decide (record { 0 = t }) votes; answer = answer.Decided (record { 0 = n }) } = (λ i. record { request = q i; answer = h i }) in (ap stands it, ap is_settled h)
+    let it : a ≡ record {
+      request = request.Decide (record { 0 = t }) votes;
+      answer = answer.Decided
+          (record { 0 = n });
+    } = (λ i. record { request = q i; answer = h i }) in (ap stands it, ap is_settled h)
 stood a t n votes q (inr h) =
-    let it : a ≡ record { request = request.Decide (record { 0 = t }) votes; answer = answer.Fault false } = (λ i. record { request = q i; answer = h i }) in (ap stands it, ap is_settled h)
+    let it : a ≡ record {
+      request = request.Decide
+          (record { 0 = t }) votes;
+      answer = answer.Fault false;
+    } = (λ i. record { request = q i; answer = h i }) in (ap stands it, ap is_settled h)
 
 module _ (were_asked : DecisionsWereAsked) (owner : OneOwner) (asked_given : AskedOfGiven) (base logs : Logs) (trails : Trails) (lists : List (List Call)) (fes : List Labelled)
     (k : Callings base logs trails lists) (at : slice_get trails 0 ≡ Some fes) where
@@ -81,7 +91,8 @@ module _ (were_asked : DecisionsWereAsked) (owner : OneOwner) (asked_given : Ask
             };
       }
     where
-      behind : (o : IsOwned trails lists d.tx) (c : Call) (front back : List Call) → o.course ≡ front ++ c ∷ back → c.request ≡ request.Decide (record { 0 = d.tx }) h.votes → IsTrue (is_settled c.answer) → AskNone d.tx back
+      behind : (o : IsOwned trails lists d.tx) (c : Call) (front back : List Call) → o.course ≡ front ++ c ∷ back
+          → c.request ≡ request.Decide (record { 0 = d.tx }) h.votes → IsTrue (is_settled c.answer) → AskNone d.tx back
       behind o c front back e q s =
           each_part (λ x. tx_asked x.request ≡ Some d.tx → ⊥) back
           (λ f x r p asks. asks_nothing d.tx (front ++ c ∷ f) x.node.0 x.request
@@ -93,5 +104,6 @@ module _ (were_asked : DecisionsWereAsked) (owner : OneOwner) (asked_given : Ask
   pub new_decided : (d : Decided) → IsIn d (decided logs) → IsIn d (decided base) ⊎ IsNewDecision trails lists fes d
   new_decided d i =
       let r = k.nodes.fes fes at in
-      elim (in_Each (λ d. IsIn d (decisions base.fes) ⊎ Has (IsDecideOf d) (asked_of fes)) d (decisions r.last.log) (subst (λ l. IsIn d (decisions l)) r.log i) (were_asked _ r.last (asked_of fes) r.ran))
+      elim (in_Each (λ d. IsIn d (decisions base.fes) ⊎ Has (IsDecideOf d) (asked_of fes)) d (decisions r.last.log)
+      (subst (λ l. IsIn d (decisions l)) r.log i) (were_asked _ r.last (asked_of fes) r.ran))
       [ inl b ↦ inl b | inr h ↦ (let a = found (IsDecideOf d) (asked_of fes) h in inr (course_of d a.0 a.1 a.2)) ]

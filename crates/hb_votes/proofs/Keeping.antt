@@ -66,7 +66,8 @@ first_of seen (request.Enlist tx) f = f tx.0 refl
 first_of seen q f = tt
 
 once_by : (seen : List ℕ) (xs : List Asked)
-    → ((f : List Asked) (a : Asked) (r : List Asked) → xs ≡ f ++ a ∷ r → (t : ℕ) → IsEnlist t a → Each (λ y. y ≢ t) seen × (Has (IsEnlist t) f → ⊥)) → EnlistsOnce seen xs
+    → ((f : List Asked) (a : Asked) (r : List Asked) → xs ≡ f ++ a ∷ r → (t : ℕ) → IsEnlist t a → Each (λ y. y ≢ t) seen × (Has (IsEnlist t) f → ⊥))
+    → EnlistsOnce seen xs
 once_by seen [] h = tt
 once_by seen (a ∷ more) h = (
   first_of seen a.request (λ t e. (h [] a more refl t e).0),
@@ -101,9 +102,21 @@ from_node node (c ∷ cs) xs b ys e =
     (λ f. left f (from_node node cs xs b ys (rw f at e)))
   where
     left : (c.node.0 == node) ≡ false → Placed node cs xs b ys → Placed node (c ∷ cs) xs b ys
-    left f k = record { front = c ∷ k.front; call = k.call; back = k.back; parts = ap (λ l. c ∷ l) k.parts; at_node = k.at_node; is = k.is; before = rw f k.before; behind = k.behind }
+    left f k =
+        record {
+          front = c ∷ k.front;
+          call = k.call;
+          back = k.back;
+          parts = ap
+              (λ l. c ∷ l) k.parts;
+          at_node = k.at_node;
+          is = k.is;
+          before = rw f k.before;
+          behind = k.behind;
+        }
 
-    taken : (xs : List Asked) → ((more : List Asked) → calls_at node cs ≡ more ++ b ∷ ys → Placed node cs more b ys) → (c.node.0 == node) ≡ true → asked_by c ∷ calls_at node cs ≡ xs ++ b ∷ ys
+    taken : (xs : List Asked) → ((more : List Asked) → calls_at node cs ≡ more ++ b ∷ ys → Placed node cs more b ys) → (c.node.0 == node) ≡ true
+        → asked_by c ∷ calls_at node cs ≡ xs ++ b ∷ ys
         → Placed node (c ∷ cs) xs b ys
     taken [] rest t e =
         let k = cons_is (asked_by c) b (calls_at node cs) ys e in
@@ -147,7 +160,8 @@ module _ (halves : Halves) (owner : OneOwner) (asked_given : AskedOfGiven) (news
   pub base_right : (i : ℕ) (before : List LogItem) → slice_get base.servers i ≡ Some before → LogOK [] before
   base_right i before h =
       halves before (each_got (Each IsBranchItem) base.servers i before k.right.log_grammar.servers h)
-      (each_got (EachBehind EndFits []) base.servers i before k.right.votes_and_outcomes.ends h) (each_got (EachBehind LocksFit []) base.servers i before k.right.prepared_locks h)
+      (each_got (EachBehind EndFits []) base.servers i before k.right.votes_and_outcomes.ends h)
+      (each_got (EachBehind LocksFit []) base.servers i before k.right.prepared_locks h)
 
   module _ (fes : List Labelled) (at : slice_get trails 0 ≡ Some fes) (node : ℕ) (trail : List Labelled) (got_trail : slice_get trails node ≡ Some trail) where
     wider : (t : ℕ) (a : Asked) → is_own t a ≡ true → is_kept a ≡ true
@@ -161,7 +175,8 @@ module _ (halves : Halves) (owner : OneOwner) (asked_given : AskedOfGiven) (news
     enlist_own t a h e = own_of t a (ap tx_asked e) (subst (λ q. (not (is_enlist q) || stands a) ≡ true) e h)
 
     enlist_given : (t : ℕ) (a : Asked) → IsIn a (kept trail) → IsEnlist t a → IsIn t (given (asked_of fes))
-    enlist_given t a i e = let f = in_filter is_kept a (asked_of trail) i in asked_given base logs trails lists fes trail node t a k at got_trail f.0 (enlist_own t a f.1 e)
+    enlist_given t a i e =
+        let f = in_filter is_kept a (asked_of trail) i in asked_given base logs trails lists fes trail node t a k at got_trail f.0 (enlist_own t a f.1 e)
 
     -- two enlistings of one transaction
     twice : (t : ℕ) (f : List Asked) (a : Asked) (r : List Asked) → kept trail ≡ f ++ a ∷ r → IsEnlist t a → Has (IsEnlist t) f → ⊥
@@ -181,16 +196,19 @@ module _ (halves : Halves) (owner : OneOwner) (asked_given : AskedOfGiven) (news
         let v = unkept (is_own t) u.back (filter (is_own t) s.back) a (filter (is_own t) r) u.behind in
         let c = from_node node o.course u.front b.0 u.back u.parts in
         let d = from_node node c.back v.front a v.back (c.behind ∙ v.parts) in
-        let whole : o.course ≡ (c.front ++ c.call ∷ d.front) ++ d.call ∷ d.back = c.parts ∙ ap (λ l. c.front ++ c.call ∷ l) d.parts ∙ assoc c.front c.call d.front d.call d.back in
+        let whole : o.course ≡ (c.front ++ c.call ∷ d.front) ++ d.call ∷ d.back = c.parts ∙ ap (λ l. c.front ++ c.call ∷ l) d.parts
+        ∙ assoc c.front c.call d.front d.call d.back in
         let q : d.call.request ≡ request.Enlist (record { 0 = t }) = ap (λ z. z.request) d.is ∙ i in
         let w : (t ≡ t) × MayEnlist d.call.node.0 (c.front ++ c.call ∷ d.front) = subst (Within t (c.front ++ c.call ∷ d.front) d.call.node.0) q
         (behind_at (λ f y. Within t f y.node.0 y.request) [] (c.front ++ c.call ∷ d.front) d.call d.back (subst (IsCourse t) whole o.is_course)) in
-        w.1.once (Has-in (AsksAt is_enlist d.call.node.0) c.call (c.front ++ c.call ∷ d.front) (is_there c.call c.front d.front) (c.at_node ∙ sym d.at_node, ap is_enlist (ap (λ z. z.request) c.is ∙ b.2)))
+        w.1.once (Has-in (AsksAt is_enlist d.call.node.0) c.call (c.front ++ c.call ∷ d.front) (is_there c.call c.front d.front)
+        (c.at_node ∙ sym d.at_node, ap is_enlist (ap (λ z. z.request) c.is ∙ b.2)))
       where
         assoc : (xs : List Call) (x : Call) (ys : List Call) (y : Call) (zs : List Call) → xs ++ x ∷ (ys ++ y ∷ zs) ≡ (xs ++ x ∷ ys) ++ y ∷ zs
         assoc xs x ys y zs = sym (append_assoc xs (x ∷ ys) (y ∷ zs))
 
-        behind : (b : Asked) (m : List Asked) → is_own t b ≡ true → is_own t a ≡ true → filter (is_own t) (b ∷ (m ++ a ∷ r)) ≡ b ∷ (filter (is_own t) m ++ a ∷ filter (is_own t) r)
+        behind : (b : Asked) (m : List Asked) → is_own t b ≡ true → is_own t a ≡ true
+            → filter (is_own t) (b ∷ (m ++ a ∷ r)) ≡ b ∷ (filter (is_own t) m ++ a ∷ filter (is_own t) r)
         behind b m x y = rw x (ap (λ l. b ∷ l) (filter-append (is_own t) m (a ∷ r) ∙ ap (λ l. filter (is_own t) m ++ l) (rw y refl)))
 
     once : (before : List LogItem) → AllReserved (greatest_upto base.fes) before → EnlistsOnce (voted_in before) (kept trail)
@@ -198,7 +216,8 @@ module _ (halves : Halves) (owner : OneOwner) (asked_given : AskedOfGiven) (news
         once_by (voted_in before) (kept trail)
         (λ f a r e t i. (
           voted_below (greatest_upto base.fes) t (prepares before) (votes_reserved (greatest_upto base.fes) before res)
-              (in_Each (λ y. greatest_upto base.fes < y) t (given (asked_of fes)) (enlist_given t a (subst (IsIn a) (sym e) (is_there a f r)) i) (news base logs trails lists fes k at)),
+              (in_Each (λ y. greatest_upto base.fes < y) t (given (asked_of fes)) (enlist_given t a (subst (IsIn a) (sym e) (is_there a f r)) i)
+              (news base logs trails lists fes k at)),
           twice t f a r e i,
         ))
 
@@ -214,7 +233,9 @@ module _ (halves : Halves) (owner : OneOwner) (asked_given : AskedOfGiven) (news
             record {
               is_right = base_right i before b;
               run = run_kept (stopped_at (redo before) (end_behind 0 before)) (asked_of trail) r.last r.ran;
-              once = once fes.0 fes.1 (i + 1) trail t before (each_got (AllReserved (greatest_upto base.fes)) base.servers i before k.right.transaction_numbers.servers b);
+              once =
+                  once fes.0 fes.1 (i + 1) trail t before
+                  (each_got (AllReserved (greatest_upto base.fes)) base.servers i before k.right.transaction_numbers.servers b);
             };
         log = r.log;
       }

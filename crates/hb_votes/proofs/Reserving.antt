@@ -28,7 +28,8 @@ each_by P (x ∷ xs) f = (f zero x refl, each_by P xs (λ i y h. f (suc i) y h))
 
 -- ---- the coordinator's run in parts
 
-pub crun_parts : (k : coordinator.CState) (front back : List Asked) (t : coordinator.CState) → coordinator.CRun k (front ++ back) t → (u : coordinator.CState) × coordinator.CRun k front u × coordinator.CRun u back t
+pub crun_parts : (k : coordinator.CState) (front back : List Asked) (t : coordinator.CState) → coordinator.CRun k (front ++ back) t
+    → (u : coordinator.CState) × coordinator.CRun k front u × coordinator.CRun u back t
 crun_parts k [] back t r = (k, refl, r)
 crun_parts k (a ∷ front) back t r = let p = crun_parts r.0 front back t r.2 in (p.0, (r.0, r.1, p.1), p.2)
 
@@ -46,7 +47,8 @@ pub record FesLaws : Type 0 where
   pub log_kept : order.LogIsKept
   pub reserved : order.GivenIsReserved
 
-given_is : (q : Request) (a : Answer) (t : ℕ) → given_by q a ≡ Some t → (o : Rattle.hb_types.specs.declared.names.Owner.Owner) × (record { request = q; answer = a } ≡ order.begun_as o t)
+given_is : (q : Request) (a : Answer) (t : ℕ) → given_by q a ≡ Some t
+    → (o : Rattle.hb_types.specs.declared.names.Owner.Owner) × (record { request = q; answer = a } ≡ order.begun_as o t)
 given_is (request.Begin o) (answer.Begun tx) t e = (o, ap (λ z. order.begun_as o z) (some_is tx.0 t e))
   where
     some_is : (x y : ℕ) → Some x ≡ Some y → x ≡ y
@@ -79,7 +81,9 @@ module _ (laws : FesLaws) (base logs : Logs) (trails : Trails) (lists : List (Li
   last = (k.nodes.fes fes at).last
 
   pub start_ordered : order.IsOrdered (coordinator.stopped_at base.fes)
-  start_ordered = laws.stopped base.fes k.right.decisions k.right.transaction_numbers.uptos_ascend (decision_reserved (greatest_upto base.fes) base.fes k.right.transaction_numbers.fes)
+  start_ordered =
+      laws.stopped base.fes k.right.decisions k.right.transaction_numbers.uptos_ascend
+      (decision_reserved (greatest_upto base.fes) base.fes k.right.transaction_numbers.fes)
 
   pub ordered : order.IsOrdered (k.nodes.fes fes at).last
   ordered = laws.kept (coordinator.stopped_at base.fes) (k.nodes.fes fes at).last (asked_of fes) start_ordered (k.nodes.fes fes at).ran
@@ -93,10 +97,17 @@ module _ (laws : FesLaws) (base logs : Logs) (trails : Trails) (lists : List (Li
   pub upto_stays : greatest_upto base.fes ≤ greatest_upto logs.fes
   upto_stays =
       subst (λ l. greatest_upto base.fes ≤ greatest_upto l) (sym (k.nodes.fes fes at).log)
-      (laws.reserved (record { log = base.fes; next = greatest_upto base.fes; active = []; up = true }) (k.nodes.fes fes at).last (record { session = 0; nth = 0 }) (greatest_upto base.fes)
+      (laws.reserved (record { log = base.fes; next = greatest_upto base.fes; active = []; up = true }) (k.nodes.fes fes at).last
+      (record { session = 0; nth = 0 }) (greatest_upto base.fes)
       (record { request = request.Stop; answer = answer.Done } ∷ asked_of fes) (
         coordinator.happens (record { log = base.fes; next = greatest_upto base.fes; active = []; up = true }) (coordinator.begun (greatest_upto base.fes)),
-        record { effects = coordinator.begun (greatest_upto base.fes) ∷ []; causes = ([], inl (omega arith, refl), refl); right = refl; steps = ((refl, omega arith), refl) },
+        record {
+          effects = coordinator.begun
+              (greatest_upto base.fes) ∷ [];
+          causes = ([], inl (omega arith, refl), refl);
+          right = refl;
+          steps = ((refl, omega arith), refl);
+        },
         (coordinator.stopped_at base.fes, record { effects = coordinator.lost ∷ []; causes = refl; right = tt; steps = (tt, refl) }, (k.nodes.fes fes at).ran),
       ))
 
@@ -105,6 +116,7 @@ module _ (laws : FesLaws) (base logs : Logs) (trails : Trails) (lists : List (Li
       let a = gave t (asked_of fes) i in
       let s = stands_at a.0 (asked_of fes) a.1 in
       let o = given_is a.0.request a.0.answer t a.2 in
-      let r = crun_parts (coordinator.stopped_at base.fes) s.front (a.0 ∷ s.back) (k.nodes.fes fes at).last (subst (λ l. coordinator.CRun (coordinator.stopped_at base.fes) l (k.nodes.fes fes at).last) s.parts (k.nodes.fes fes at).ran) in
+      let r = crun_parts (coordinator.stopped_at base.fes) s.front (a.0 ∷ s.back) (k.nodes.fes fes at).last
+      (subst (λ l. coordinator.CRun (coordinator.stopped_at base.fes) l (k.nodes.fes fes at).last) s.parts (k.nodes.fes fes at).ran) in
       subst (λ l. t ≤ greatest_upto l) (sym (k.nodes.fes fes at).log)
       (laws.reserved r.0 (k.nodes.fes fes at).last o.0 t s.back (subst (λ z. coordinator.CRun r.0 (z ∷ s.back) (k.nodes.fes fes at).last) o.1 r.2))

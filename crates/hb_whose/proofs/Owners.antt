@@ -46,26 +46,33 @@ module _ (transactions_ascend : TransactionsAscend) (base logs : Logs) (trails :
   pub begun_given : (c : ℕ) (list : List Call) (t : ℕ) → slice_get lists c ≡ Some list → IsIn t (begins_of list) → IsIn t (given (asked_of fes))
   begun_given c list t h i = in_given c t fes (subst (IsIn t) (begun_here c list h) i)
 
-  pub same_caller : (c e t : ℕ) (list more : List Call) → slice_get lists c ≡ Some list → slice_get lists e ≡ Some more → IsIn t (begins_of list) → IsIn t (begins_of more) → c ≡ e
+  pub same_caller : (c e t : ℕ) (list more : List Call) → slice_get lists c ≡ Some list → slice_get lists e ≡ Some more → IsIn t (begins_of list)
+      → IsIn t (begins_of more) → c ≡ e
   same_caller c e t list more h g i j = one_caller c e t fes ascends (subst (IsIn t) (begun_here c list h) i) (subst (IsIn t) (begun_here e more g) j)
 
   -- ---- what is asked of a transaction is asked by a caller that began it
 
-  pub permitted : (c : ℕ) (list front : List Call) (x : Call) (back : List Call) → slice_get lists c ≡ Some list → list ≡ front ++ x ∷ back → (session : ℕ) × Permitted session front x.node.0 x.request
+  pub permitted : (c : ℕ) (list front : List Call) (x : Call) (back : List Call) → slice_get lists c ≡ Some list → list ≡ front ++ x ∷ back
+      → (session : ℕ) × Permitted session front x.node.0 x.request
   permitted c list front x back h e =
       let o = some_obeys lists k.obey k.operator c list h in
       (o.session, behind_at (λ f y. Permitted o.session f y.node.0 y.request) [] front x back (subst (Obeys o.session) e o.obeys))
 
-  pub within_front : (c : ℕ) (list front : List Call) (x : Call) (back : List Call) (t : ℕ) → slice_get lists c ≡ Some list → list ≡ front ++ x ∷ back → tx_asked x.request ≡ Some t
+  pub within_front : (c : ℕ) (list front : List Call) (x : Call) (back : List Call) (t : ℕ) → slice_get lists c ≡ Some list → list ≡ front ++ x ∷ back
+      → tx_asked x.request ≡ Some t
       → IsWithin t front x.node.0 x.request
   within_front c list front x back t h e q = let p = permitted c list front x back h e in asks_within p.0 t front x.node.0 x.request q p.1
 
-  pub begun_before : (c : ℕ) (list front : List Call) (x : Call) (back : List Call) (t : ℕ) → slice_get lists c ≡ Some list → list ≡ front ++ x ∷ back → tx_asked x.request ≡ Some t
+  pub begun_before : (c : ℕ) (list front : List Call) (x : Call) (back : List Call) (t : ℕ) → slice_get lists c ≡ Some list → list ≡ front ++ x ∷ back
+      → tx_asked x.request ≡ Some t
       → IsIn t (begins_of front)
-  begun_before c list front x back t h e q = let w = within_front c list front x back t h e q in subst (λ z. IsIn z (begins_of front)) w.tx (current_in front w.now w.is)
+  begun_before c list front x back t h e q =
+      let w = within_front c list front x back t h e q in subst (λ z. IsIn z (begins_of front)) w.tx (current_in front w.now w.is)
 
   in_whole : (front more : List Call) (t : ℕ) (list : List Call) → list ≡ front ++ more → IsIn t (begins_of front) → IsIn t (begins_of list)
-  in_whole front more t list e i = subst (λ l. IsIn t (begins_of l)) (sym e) (subst (IsIn t) (sym (begins_append front more)) (Has-front (λ y. y ≡ t) (begins_of front) (begins_of more) i))
+  in_whole front more t list e i =
+      subst (λ l. IsIn t (begins_of l)) (sym e)
+      (subst (IsIn t) (sym (begins_append front more)) (Has-front (λ y. y ≡ t) (begins_of front) (begins_of more) i))
 
   -- an entry that asks something of a transaction is of a caller that began it
   pub record IsOf (t : ℕ) (c : ℕ) : Type 0 where
@@ -73,15 +80,22 @@ module _ (transactions_ascend : TransactionsAscend) (base logs : Logs) (trails :
     pub its_list : slice_get lists c ≡ Some list
     pub begun : IsIn t (begins_of list)
 
-  pub of_caller : (node : ℕ) (trail : List Labelled) (l : Labelled) (t : ℕ) → slice_get trails node ≡ Some trail → IsIn l trail → is_own t (asked l.entry) ≡ true → IsOf t l.caller
+  pub of_caller : (node : ℕ) (trail : List Labelled) (l : Labelled) (t : ℕ) → slice_get trails node ≡ Some trail → IsIn l trail
+      → is_own t (asked l.entry) ≡ true → IsOf t l.caller
   of_caller node trail l t h i o =
       let p = own_parts t (asked l.entry) o in
       let a = asked_in_list trails lists k.merged node trail l h i p.1 in
       let s = stands_at a.call a.list a.within in
       let q : tx_asked a.call.request ≡ Some t = ap (λ z. tx_asked z.request) a.is ∙ p.0 in
-      record { list = a.list; its_list = a.its_list; begun = in_whole s.front (a.call ∷ s.back) t a.list s.parts (begun_before l.caller a.list s.front a.call s.back t a.its_list s.parts q) }
+      record {
+        list = a.list;
+        its_list = a.its_list;
+        begun = in_whole s.front (a.call ∷ s.back) t a.list s.parts
+            (begun_before l.caller a.list s.front a.call s.back t a.its_list s.parts q);
+      }
 
-  pub asked_of_given : (trail : List Labelled) (node t : ℕ) (a : Asked) → slice_get trails node ≡ Some trail → IsIn a (asked_of trail) → is_own t a ≡ true → IsIn t (given (asked_of fes))
+  pub asked_of_given : (trail : List Labelled) (node t : ℕ) (a : Asked) → slice_get trails node ≡ Some trail → IsIn a (asked_of trail) → is_own t a ≡ true
+      → IsIn t (given (asked_of fes))
   asked_of_given trail node t a h i o =
       let l = in_map (λ l. asked l.entry) a trail i in
       let c = of_caller node trail l.0 t h l.1 (subst (λ z. is_own t z ≡ true) (sym l.2) o) in
@@ -109,7 +123,8 @@ module _ (transactions_ascend : TransactionsAscend) (base logs : Logs) (trails :
     parts_ascend : Ascends nat_cmp (begins_of b.front ++ (t ∷ begins_of (u.course ++ u.after)))
     parts_ascend =
         subst (Ascends nat_cmp)
-        (ap begins_of whole ∙ begins_append b.front (b.begin ∷ (u.course ++ u.after)) ∙ ap (λ l. begins_of b.front ++ l) (begins_append (b.begin ∷ []) (u.course ++ u.after) ∙ ap (λ l. l ++ begins_of (u.course ++ u.after)) b.begun))
+        (ap begins_of whole ∙ begins_append b.front (b.begin ∷ (u.course ++ u.after))
+        ∙ ap (λ l. begins_of b.front ++ l) (begins_append (b.begin ∷ []) (u.course ++ u.after) ∙ ap (λ l. l ++ begins_of (u.course ++ u.after)) b.begun))
         (begins_ascend c list its)
 
     not_before : IsIn t (begins_of b.front) → ⊥
@@ -130,7 +145,8 @@ module _ (transactions_ascend : TransactionsAscend) (base logs : Logs) (trails :
     none_before =
         each_part (λ x. tx_asked x.request ≡ Some t → ⊥) b.front
         (λ f x r e q. not_before (in_whole f (x ∷ r) t b.front e
-        (begun_before c list f x (r ++ b.begin ∷ (u.course ++ u.after)) t its (whole ∙ ap (λ l. l ++ b.begin ∷ (u.course ++ u.after)) e ∙ append_assoc f (x ∷ r) (b.begin ∷ (u.course ++ u.after))) q)))
+        (begun_before c list f x (r ++ b.begin ∷ (u.course ++ u.after)) t its
+        (whole ∙ ap (λ l. l ++ b.begin ∷ (u.course ++ u.after)) e ∙ append_assoc f (x ∷ r) (b.begin ∷ (u.course ++ u.after))) q)))
 
     its_calls : (f : List Call) → begins_of f ≡ [] → current (b.front ++ b.begin ∷ f) ≡ Some (record { tx = t; calls = f })
     its_calls f none = current_begun None b.front b.begin t f b.begun none
@@ -148,7 +164,8 @@ module _ (transactions_ascend : TransactionsAscend) (base logs : Logs) (trails :
     -- a call of the course is within it
     course_within : (f : List Call) (x : Call) (r : List Call) → u.course ≡ f ++ x ∷ r → Within t f x.node.0 x.request
     course_within f x r e = within_none t f x.node.0 x.request (λ v q. one v q (within_front c list (b.front ++ b.begin ∷ f) x (r ++ u.after) v its
-        (whole ∙ ap (λ l. b.front ++ b.begin ∷ (l ++ u.after)) e ∙ ap (λ l. b.front ++ b.begin ∷ l) (append_assoc f (x ∷ r) u.after) ∙ sym (append_assoc b.front (b.begin ∷ f) (x ∷ (r ++ u.after)))) q))
+        (whole ∙ ap (λ l. b.front ++ b.begin ∷ (l ++ u.after)) e ∙ ap (λ l. b.front ++ b.begin ∷ l) (append_assoc f (x ∷ r) u.after)
+        ∙ sym (append_assoc b.front (b.begin ∷ f) (x ∷ (r ++ u.after)))) q))
       where
         one : (v : ℕ) → tx_asked x.request ≡ Some v → IsWithin v (b.front ++ b.begin ∷ f) x.node.0 x.request → Within t f x.node.0 x.request
         one v q w =
@@ -171,12 +188,15 @@ module _ (transactions_ascend : TransactionsAscend) (base logs : Logs) (trails :
     none_behind : AskNone t u.after
     none_behind = each_part (λ x. tx_asked x.request ≡ Some t → ⊥) u.after (λ f x r e q. one f x r e q u.next)
       where
-        later : (f : List Call) (x : Call) (r : List Call) → u.after ≡ f ++ x ∷ r → tx_asked x.request ≡ Some t → IsWithin t ((b.front ++ b.begin ∷ u.course) ++ f) x.node.0 x.request
+        later : (f : List Call) (x : Call) (r : List Call) → u.after ≡ f ++ x ∷ r → tx_asked x.request ≡ Some t
+            → IsWithin t ((b.front ++ b.begin ∷ u.course) ++ f) x.node.0 x.request
         later f x r e q =
             within_front c list ((b.front ++ b.begin ∷ u.course) ++ f) x r t its
-            (whole ∙ ap (λ l. b.front ++ b.begin ∷ (u.course ++ l)) e ∙ sym (append_assoc b.front (b.begin ∷ u.course) (f ++ x ∷ r)) ∙ sym (append_assoc (b.front ++ b.begin ∷ u.course) f (x ∷ r))) q
+            (whole ∙ ap (λ l. b.front ++ b.begin ∷ (u.course ++ l)) e ∙ sym (append_assoc b.front (b.begin ∷ u.course) (f ++ x ∷ r))
+            ∙ sym (append_assoc (b.front ++ b.begin ∷ u.course) f (x ∷ r))) q
 
-        first_of : (d : Call) (more : List Call) (f : List Call) (x : Call) (r : List Call) → d ∷ more ≡ f ++ x ∷ r → (f ≡ []) × (d ≡ x) ⊎ ((g : List Call) × (f ≡ d ∷ g))
+        first_of : (d : Call) (more : List Call) (f : List Call) (x : Call) (r : List Call) → d ∷ more ≡ f ++ x ∷ r
+            → (f ≡ []) × (d ≡ x) ⊎ ((g : List Call) × (f ≡ d ∷ g))
         first_of d more [] x r e = inl (refl, cc)
         first_of d more (y ∷ g) x r e = inr (g, ap (λ z. z ∷ g) (sym (heads d y more (g ++ x ∷ r) e)))
           where
@@ -200,20 +220,30 @@ module _ (transactions_ascend : TransactionsAscend) (base logs : Logs) (trails :
                 next_asks_none n.0.request (system.begins (begins_some n.0.answer n.3)).1 (ap (λ z. tx_asked z.request) p.1 ∙ q)
             kind (inr p) =
                 let w = later f x r e q in
-                let c : current_from (current (b.front ++ b.begin ∷ u.course)) (n.0 ∷ p.0) ≡ Some w.now = sym (current_append None (b.front ++ b.begin ∷ u.course) (n.0 ∷ p.0)) ∙ ap (λ l. current ((b.front ++ b.begin ∷ u.course) ++ l)) (sym p.1) ∙ w.is in
-                not_behind (in_whole f (x ∷ r) t u.after e (subst (λ l. IsIn t (begins_of l)) (sym p.1) (subst (λ z. IsIn z (begins_of (n.0 ∷ p.0))) w.tx (current_behind (current (b.front ++ b.begin ∷ u.course)) n.0 p.0 w.now n.3 c))))
+                let c : current_from (current (b.front ++ b.begin ∷ u.course)) (n.0 ∷ p.0) ≡ Some w.now = sym
+                (current_append None (b.front ++ b.begin ∷ u.course) (n.0 ∷ p.0)) ∙ ap (λ l. current ((b.front ++ b.begin ∷ u.course) ++ l)) (sym p.1)
+                ∙ w.is in
+                not_behind (in_whole f (x ∷ r) t u.after e
+                (subst (λ l. IsIn t (begins_of l)) (sym p.1)
+                (subst (λ z. IsIn z (begins_of (n.0 ∷ p.0))) w.tx (current_behind (current (b.front ++ b.begin ∷ u.course)) n.0 p.0 w.now n.3 c))))
 
     -- each trail's entries of it are this caller's
-    in_trails : (node : ℕ) (trail : List Labelled) → slice_get trails node ≡ Some trail → filter (is_own t) (asked_of trail) ≡ filter (is_own t) (calls_at node u.course)
+    in_trails : (node : ℕ) (trail : List Labelled) → slice_get trails node ≡ Some trail
+        → filter (is_own t) (asked_of trail) ≡ filter (is_own t) (calls_at node u.course)
     in_trails node trail h =
-        only_own t c trail (Each-in (λ l. is_own t (asked l.entry) ≡ true → l.caller ≡ c) trail (λ l i o. let e = of_caller node trail l t h i o in same_caller l.caller c t e.list list e.its_list its e.begun begun))
+        only_own t c trail (Each-in (λ l. is_own t (asked l.entry) ≡ true → l.caller ≡ c) trail
+        (λ l i o. let e = of_caller node trail l t h i o in same_caller l.caller c t e.list list e.its_list its e.begun begun))
         ∙ sym (kept_twice (is_own t) stands wider (entries_of c trail)) ∙ ap (filter (is_own t)) (k.merged.same node c trail list h its)
-        ∙ kept_twice (is_own t) stands wider (calls_at node list) ∙ ap (λ l. filter (is_own t) (calls_at node l)) whole ∙ ap (filter (is_own t)) (calls_at_append node b.front (b.begin ∷ (u.course ++ u.after)))
-        ∙ filter-append (is_own t) (calls_at node b.front) (calls_at node (b.begin ∷ (u.course ++ u.after))) ∙ ap (λ l. l ++ filter (is_own t) (calls_at node (b.begin ∷ (u.course ++ u.after)))) (none_own t node b.front none_before)
-        ∙ ap (filter (is_own t)) (calls_at_append node (b.begin ∷ []) (u.course ++ u.after)) ∙ filter-append (is_own t) (calls_at node (b.begin ∷ [])) (calls_at node (u.course ++ u.after))
+        ∙ kept_twice (is_own t) stands wider (calls_at node list) ∙ ap (λ l. filter (is_own t) (calls_at node l)) whole
+        ∙ ap (filter (is_own t)) (calls_at_append node b.front (b.begin ∷ (u.course ++ u.after)))
+        ∙ filter-append (is_own t) (calls_at node b.front) (calls_at node (b.begin ∷ (u.course ++ u.after)))
+        ∙ ap (λ l. l ++ filter (is_own t) (calls_at node (b.begin ∷ (u.course ++ u.after)))) (none_own t node b.front none_before)
+        ∙ ap (filter (is_own t)) (calls_at_append node (b.begin ∷ []) (u.course ++ u.after))
+        ∙ filter-append (is_own t) (calls_at node (b.begin ∷ [])) (calls_at node (u.course ++ u.after))
         ∙ ap (λ l. l ++ filter (is_own t) (calls_at node (u.course ++ u.after))) (none_own t node (b.begin ∷ []) (begin_asks_none, tt))
         ∙ ap (filter (is_own t)) (calls_at_append node u.course u.after) ∙ filter-append (is_own t) (calls_at node u.course) (calls_at node u.after)
-        ∙ ap (λ l. filter (is_own t) (calls_at node u.course) ++ l) (none_own t node u.after none_behind) ∙ append-nil (filter (is_own t) (calls_at node u.course))
+        ∙ ap (λ l. filter (is_own t) (calls_at node u.course) ++ l) (none_own t node u.after none_behind)
+        ∙ append-nil (filter (is_own t) (calls_at node u.course))
       where
         wider : (a : Asked) → is_own t a ≡ true → stands a ≡ true
         wider a o = (own_parts t a o).1
@@ -251,19 +281,26 @@ module _ (transactions_ascend : TransactionsAscend) (base logs : Logs) (trails :
 
   given_to : (t : ℕ) (trail : List Labelled) → IsIn t (given (asked_of trail)) → (l : Labelled) × IsIn l trail × IsIn t (given (entries_of l.caller trail))
   given_to t [] h = absurd h
-  given_to t (l ∷ ls) h = by (in_append t (gave (asked l.entry)) (given (asked_of ls)) (subst (IsIn t) (given_cons (asked l.entry) (asked_of ls)) h)) (λ i. given_to t ls i)
+  given_to t (l ∷ ls) h =
+      by (in_append t (gave (asked l.entry)) (given (asked_of ls)) (subst (IsIn t) (given_cons (asked l.entry) (asked_of ls)) h)) (λ i. given_to t ls i)
     where
-      by : IsIn t (gave (asked l.entry)) ⊎ IsIn t (given (asked_of ls)) → (IsIn t (given (asked_of ls)) → (m : Labelled) × IsIn m ls × IsIn t (given (entries_of m.caller ls)))
+      by : IsIn t (gave (asked l.entry)) ⊎ IsIn t (given (asked_of ls))
+          → (IsIn t (given (asked_of ls)) → (m : Labelled) × IsIn m ls × IsIn t (given (entries_of m.caller ls)))
           → (m : Labelled) × IsIn m (l ∷ ls) × IsIn t (given (entries_of m.caller (l ∷ ls)))
       by (inl i) rest =
-          let u : (l.caller == l.caller) ≡ true = same_number l.caller in
-          (l, inl refl, rw u (subst (IsIn t) (sym (given_cons (asked l.entry) (entries_of l.caller ls))) (Has-front (λ y. y ≡ t) (gave (asked l.entry)) (given (entries_of l.caller ls)) i)))
+          let u : (l.caller == l.caller) ≡ true = same_number l.caller in (
+            l,
+            inl refl,
+            rw u (subst (IsIn t) (sym (given_cons (asked l.entry) (entries_of l.caller ls)))
+                (Has-front (λ y. y ≡ t) (gave (asked l.entry)) (given (entries_of l.caller ls)) i)),
+          )
       by (inr i) rest =
           let m = rest i in (
             m.0,
             inr m.1,
             by_test (l.caller == m.0.caller)
-                (λ u. rw u (subst (IsIn t) (sym (given_cons (asked l.entry) (entries_of m.0.caller ls))) (Has-back (λ y. y ≡ t) (gave (asked l.entry)) (given (entries_of m.0.caller ls)) m.2)))
+                (λ u. rw u (subst (IsIn t) (sym (given_cons (asked l.entry) (entries_of m.0.caller ls)))
+                (Has-back (λ y. y ≡ t) (gave (asked l.entry)) (given (entries_of m.0.caller ls)) m.2)))
                 (λ f. rw f m.2),
           )
 

@@ -76,7 +76,8 @@ module _ {A : Type 0} (p : A → Bool) where
       left : p x ≡ false → Unkept xs cs b bs → Unkept (x ∷ xs) cs b bs
       left f k = record { front = x ∷ k.front; back = k.back; parts = ap (λ l. x ∷ l) k.parts; before = rw f k.before; behind = k.behind; passes = k.passes }
 
-      taken : (cs : List A) → ((more : List A) → filter p xs ≡ more ++ b ∷ bs → Unkept xs more b bs) → p x ≡ true → x ∷ filter p xs ≡ cs ++ b ∷ bs → Unkept (x ∷ xs) cs b bs
+      taken : (cs : List A) → ((more : List A) → filter p xs ≡ more ++ b ∷ bs → Unkept xs more b bs) → p x ≡ true → x ∷ filter p xs ≡ cs ++ b ∷ bs
+          → Unkept (x ∷ xs) cs b bs
       taken [] rest t e =
           let k = cons_is x b (filter p xs) bs e in
           record { front = []; back = xs; parts = ap (λ z. z ∷ xs) k.0; before = refl; behind = k.1; passes = subst (λ z. p z ≡ true) k.0 t }
