@@ -1,5 +1,5 @@
 -- A world with a decision: a session creates an area on an empty system and commits it, ds votes, fes1 decides, and ds commits.
-use Rattle.std.proofs.Common.{◌≡◌, ◌≢◌, ◌⊎◌, ℕ, zero, suc, ◌+◌, ◌≤◌, ◌<◌, Bool, true, false, List, [], ◌∷◌, ◌++◌, length, Some, None, Ok, Result, refl, subst, sym, ◌∙◌, arith, lit≤, lit<, inl, inr}
+use Rattle.std.proofs.Common.{◌≡◌, ◌≢◌, ◌⊎◌, ℕ, zero, suc, ◌+◌, ◌≤◌, ◌<◌, Bool, true, false, List, [], ◌∷◌, ◌++◌, length, Some, None, Ok, Result, refl, subst, sym, ap, ◌∙◌, arith, lit≤, lit<, inl, inr}
 use Rattle.std.specs.Prelude.{codes, slice_get, filter, flat_map, All, IsTrue}
 use Rattle.std.specs.Int.{w64}
 use Rattle.std.proofs.lemmas.Bool.{false≢true}
@@ -20,7 +20,7 @@ use Rattle.hb_types.specs.declared.request.Request.TheVariants as request
 use Rattle.hb_types.specs.declared.request.Vote.{Vote}
 use Rattle.hb_types.specs.declared.trail.Call.{Call}
 use Rattle.hb_types.specs.declared.trail.TrailEntry.{TrailEntry}
-use Rattle.hb_types.specs.Lists.{Each, IsIn}
+use Rattle.hb_types.specs.Lists.{Each, Has, IsIn}
 use Rattle.hb_types.specs.Records.{framed, IsChange, record_length}
 use Rattle.hb_types.specs.Rows.{HaveRow, HasBytes}
 use Rattle.hb_types.specs.Places.{IsPath}
@@ -28,15 +28,18 @@ use Rattle.hb_model.specs.declared.reply.Reply.{Reply}
 use Rattle.hb_model.specs.declared.reply.Reply.TheVariants as reply
 use Rattle.hb_model.specs.declared.statement.Statement.{Statement}
 use Rattle.hb_model.specs.declared.statement.Statement.TheVariants as statement
-use Rattle.hb_model.specs.Answers.{call, HasAsked, is_decide, is_undoing}
+use Rattle.hb_model.specs.Answers.{AnswersOf, afters, call, HasAsked, is_decide, is_undoing}
 use Rattle.hb_model.specs.Define.{new_area}
 use Rattle.hb_model.specs.Dictionary.{area_row, at_place}
 use Rattle.hb_model.specs.Faithful.{Faithful}
 use Rattle.hb_model.specs.Items.{Item, sql, tending, nothing_spent}
 use Rattle.hb_model.specs.Spots.{areas_space, dictionary_space}
-use Rattle.hb_model.specs.State.{Area, nothing}
+use Rattle.hb_model.specs.State.{Area, State, nothing}
 use Rattle.hb_disks.specs.Disks.{written}
-use Rattle.hb_disks.specs.Images.{Images, Logs, HasItems}
+use Rattle.hb_model.specs.Families.{EachServer}
+use Rattle.hb_model.specs.System.{Sys}
+use Rattle.hb_disks.specs.Images.{Images, Logs, HasItems, decided, family}
+use Rattle.hb_disks.specs.StandsFor.{Agrees, AreLogs, StandsWith}
 use Rattle.hb_disks.specs.Logless.{empty_images, empty_logs, empty_server}
 use Rattle.hb_disks.specs.LogPlaces.{end_behind}
 use Rattle.hb_disks.specs.Points.{HasBase}
@@ -55,10 +58,14 @@ use Rattle.hb_faithful.proofs.Does.{plan_does}
 use Rattle.hb_faithful.proofs.Faithfuls.{plan_faithful}
 use Rattle.hb_law.specs.Answering.{IsOfSystem, tells_nothing}
 use Rattle.hb_law.specs.Callers.{Obeys, MayEnlist, IsOpen, MayDecide, is_begun}
-use Rattle.hb_law.specs.Composition.{World, Together, NodesRan, CoordinatorRan, ServerRan, lists_of, AllObey, OperatorObeys, AllPlaced, ArePlaced, ShowsItems, lines_by, shown_of}
+use Rattle.hb_alone.specs.RunThrough.{RunThrough}
+use Rattle.hb_alone.proofs.Running.{items_run_alone}
+use Rattle.hb_law.specs.Explained.{ExplainedApart}
+use Rattle.hb_law.specs.RunAlone.{RunsAlone}
+use Rattle.hb_law.specs.Composition.{World, Together, BalancedAtCompletes, IsComplete, NodesRan, CoordinatorRan, ServerRan, lists_of, AllObey, OperatorObeys, AllPlaced, ArePlaced, ShowsItems, lines_by, shown_of}
 use Rattle.hb_law.specs.Histories.{Labelled, Merged, Trails, Shown, stands, entries_of, calls_at}
 use Rattle.hb_plancalc.specs.Counted.{IsWithin}
-use Rattle.hb_law.specs.Transactions.{Txn, IsTxnOf, IsRightTxn, IsSomebodys}
+use Rattle.hb_law.specs.Transactions.{Txn, OwnersApart, IsTxnOf, IsRightTxn, IsSomebodys}
 
 -- ---- the world
 
@@ -700,3 +707,109 @@ area_made_together =
       numbers = ((tt, tt), (((tt, tt), ((inr (inl (refl, refl)), tt), tt)), tt));
       shown = lines_shown;
     }
+
+-- ---- what the law concludes
+
+sys_before : Sys 1 (family after_logs []) nothing
+sys_before = empty_stands_with.system
+
+answers : AnswersOf (family after_logs []) all_asked
+answers = (tt, (tt, (tt, (tt, (refl, (tt, (tt, (tt, (tt, (tt, tt))))))))))
+
+run_through : RunThrough 1 began.items
+run_through =
+    record {
+      statements = (tt, (tt, tt));
+      right = (faithful, (((refl, refl), inr (inl (refl, refl))), tt));
+      answered = (refl, lit≤ tt);
+      replied = ((λ e. absurd (cc e)), (tt, tt));
+      inside = (refl, tt);
+    }
+
+ran_alone : (after : State) × Sys 1 (afters (family after_logs []) all_asked) after × RunsAlone 1 began.items nothing after
+ran_alone = items_run_alone 1 began.items (family after_logs []) nothing sys_before run_through answers
+
+are_logs : AreLogs after_logs
+are_logs =
+    record {
+      log_grammar = record { fes = (tt, (tt, tt)); servers = ((tt, (tt, tt)), (tt, tt)); fes_room = lit≤ tt; room = (lit≤ tt, (lit≤ tt, tt)) };
+      transaction_numbers = record { uptos_ascend = tt; fes = (lit≤ tt, (lit≤ tt, tt)); servers = ((lit≤ tt, (lit≤ tt, tt)), (tt, tt)) };
+      decisions = record { ascend = tt; once = (tt, tt) };
+      votes_and_outcomes = record { ends = (((tt, refl), (inl (refl, lit< tt), tt)), (tt, tt)); servers = agree; nodes_are_here = (((lit≤ tt, lit≤ tt), tt), tt) };
+      prepared_locks = ((record { agree = tt; closed = (tt, tt); covered = (inl refl, tt) }, (tt, tt)), (tt, tt));
+    }
+  where
+    agree : EachServer after_logs.servers (Agrees (decided after_logs))
+    agree zero log h =
+        at_one (Agrees (decided after_logs) 1) (vote ∷ end ∷ []) log h
+        (record {
+          numbers = record { committed = (inl (refl, refl), tt); aborted = tt; above = (((λ e. lit< tt), tt), tt) };
+          voted = (((λ h. inl refl), (λ h. refl)), tt);
+          named = (((λ e. refl), tt), tt);
+        })
+    agree (suc zero) log h =
+        at_one (Agrees (decided after_logs) 2) [] log h
+        (record { numbers = record { committed = tt; aborted = tt; above = (tt, tt) }; voted = (((λ h. no h), (λ h. absurd h)), tt); named = tt })
+    agree (suc (suc n)) log h = none_is log h
+
+pub area_stands : (s : State) × StandsWith written after_images after_logs s
+area_stands = (
+  ran_alone.0,
+  record {
+    read = area_made_together.read;
+    are_logs = are_logs;
+    points = area_made_together.points;
+    system = ran_alone.1;
+  },
+)
+
+only : (t : Txn) → IsIn t (began ∷ []) → began ≡ t
+only t (inl e) = e
+only t (inr e) = absurd e
+
+not_before : (n : ℕ) → n < n → ⊥
+not_before n lt = omega (arith, lt)
+
+apart : OwnersApart (began ∷ [])
+apart =
+    record {
+      one_tx = λ t u i j e. ap (λ (x : Txn). x.tx) (sym (only t i) ∙ only u j);
+      one_owner = λ t u i j e. ap (λ (x : Txn). x.owner) (sym (only t i) ∙ only u j);
+      ascend = λ t u i j e lt. absurd (not_before u.owner.nth (subst (λ (x : Txn). x.owner.nth < u.owner.nth) (sym (only t i) ∙ only u j) lt));
+    }
+
+pub area_explained : ExplainedApart empty_logs after_logs (began ∷ []) all_lines (decided after_logs)
+area_explained =
+    record {
+      decisions = record { begins = refl; owned = (inl refl, tt); owners_apart = apart };
+      ends = record {
+        judged = (inl (inl (refl, inl (refl, inl refl))), (inl (inl (refl, inr (inl (refl, inl refl)))), tt));
+        named = (right.named, tt);
+        ended = ((((λ h. no h), tt), ((inl (refl, refl), tt), tt)), tt);
+        told = (tt, (tt, tt));
+        open_or_shown = (((λ e. refl), tt), tt);
+      };
+      run_alone = (
+        record {
+          txn = began;
+          known = inl refl;
+          of_tx = refl;
+          before = nothing;
+          after = ran_alone.0;
+          at_before = sys_before;
+          at_after = ran_alone.1;
+          steps = inl ((tt, (tt, tt)), ran_alone.2);
+        },
+        tt,
+      );
+      clean = (((tt, tt), ((tt, tt), tt)), tt);
+    }
+
+-- no line of it shows a table complete
+pub area_balanced : BalancedAtCompletes world
+area_balanced t i table most n known among is told = absurd (none i (subst (λ (x : Txn). IsIn i x.items) (sym (only t known)) among) told)
+  where
+    none : (i : Item) → IsIn i (makes ∷ closes ∷ []) → Has (λ r. IsComplete r n) i.lines → ⊥
+    none i (inl e) h = neither nobody nobody (subst (λ (x : Item). Has (λ r. IsComplete r n) x.lines) (sym e) h)
+    none i (inr (inl e)) h = neither nobody nobody (subst (λ (x : Item). Has (λ r. IsComplete r n) x.lines) (sym e) h)
+    none i (inr (inr e)) h = e
