@@ -12,8 +12,9 @@ use Rattle.hb_types.specs.declared.request.Vote.{Vote}
 use Rattle.hb_types.specs.declared.trail.Call.{Call}
 use Rattle.hb_model.specs.declared.reply.Reply.{Reply}
 use Rattle.hb_model.specs.declared.reply.Reply.TheVariants as reply
-use Rattle.hb_model.specs.Answers.{call, is_decide, is_grant, is_of_rows, of_rows}
+use Rattle.hb_model.specs.Answers.{call, HasAsked, is_decide, is_grant, is_of_rows, is_undoing, of_rows}
 use Rattle.hb_model.specs.NodeSets.{nodes_in, with_node}
+use Rattle.hb_model.specs.Outside.{is_outside, says_undone}
 use Rattle.hb_talk.specs.Ends.{commits, committing, decided, end_refusal, ending, fes1, is_done, rolling_back, voted, voting}
 use Rattle.hb_talk.specs.Talk.{Follows, ends, asked, Use, the_tx}
 use Rattle.hb_law.specs.Callers.{Asks, MayBeDecided, is_settled}
@@ -52,10 +53,28 @@ tells_decision (reply.Committed number) = true
 tells_decision (reply.OutcomeUnknown owner) = true
 tells_decision _ = false
 
-pub tells_off : (calls : List Call) (r : Reply) → tells_decision r ≡ false → ¬ (MayBeDecided calls) → CommitTells calls (Some r)
-tells_off calls (reply.Committed number) e h = absurd (false≢true (sym e))
-tells_off calls (reply.OutcomeUnknown owner) e h = absurd (false≢true (sym e))
-tells_off calls _ e h = h
+-- nothing is decided where it is undone, and says so
+pub tells_off : (calls : List Call) (r : Reply) → tells_decision r ≡ false → ¬ (MayBeDecided calls) → IsTrue (says_undone r) → HasAsked is_undoing calls → CommitTells calls (Some r)
+tells_off calls (reply.Committed number) e h undone asks = absurd (false≢true (sym e))
+tells_off calls (reply.OutcomeUnknown owner) e h undone asks = absurd (false≢true (sym e))
+tells_off calls _ e h undone asks = (h, undone, asks)
+
+-- a reply from outside says that the transaction was rolled back
+pub outside_undone : (r : Reply) → IsTrue (is_outside r) → IsTrue (says_undone r)
+outside_undone reply.RolledBack h = refl
+outside_undone _ h = h
+
+pub asked_behind : (test : Request → Bool) (front calls : List Call) → HasAsked test calls → HasAsked test (front ++ calls)
+asked_behind test [] calls h = h
+asked_behind test (c ∷ front) calls h = inr (asked_behind test front calls h)
+
+end_undone : (node : ℕ) (a : Answer) → IsTrue (says_undone (end_refusal node a))
+end_undone node answer.Down = refl
+end_undone node (answer.Fault area) = refl
+end_undone node (answer.Cycle edges) = refl
+end_undone node answer.NumbersSpent = refl
+end_undone node answer.NoMemory = refl
+end_undone node _ = refl
 
 end_bare : (node : ℕ) (a : Answer) → tells_decision (end_refusal node a) ≡ false
 end_bare node answer.Down = refl
@@ -81,7 +100,7 @@ tells_more (c ∷ front) calls r b h = one (tells_more front calls r b.1 h)
     one = elim r as (λ x. CommitTells (front ++ calls) (Some x) → CommitTells (c ∷ (front ++ calls)) (Some x)) [
       | reply.Committed number ↦ λ k. inr k
       | reply.OutcomeUnknown owner ↦ λ k. inr k
-      | x ↦ later
+      | x ↦ λ k. (later k.0, k.1, inr k.2)
     ]
 
 -- ---- the talk
@@ -105,7 +124,8 @@ refused_tells : (u : Use) (prepared node : ℕ) (c : Call) (a : Answer) (said : 
 refused_tells u prepared node c a said calls plain free none f =
     let k = rolling_closes u prepared (end_refusal node a) said calls f in record {
       bare = (rw plain (no_rows calls k.1.beside), rw free (grants_beside calls k.1.beside));
-      told = tells_off (c ∷ calls) said (ap tells_decision k.0 ∙ end_bare node a) (λ h. elim h [ inl x ↦ none x | inr x ↦ off calls k.1.beside x ]);
+      told = tells_off (c ∷ calls) said (ap tells_decision k.0 ∙ end_bare node a) (λ h. elim h [ inl x ↦ none x | inr x ↦ off calls k.1.beside x ])
+          (subst (λ x. IsTrue (says_undone x)) (sym k.0) (end_undone node a)) (inr (k.1.undone (end_undone node a)));
     }
 
 decided_tells : (owner : Owner) (u : Use) (votes : List Vote) (a : Answer) (said : Reply) (calls : List Call) → Follows false (decided owner u reply.Committed a) calls said

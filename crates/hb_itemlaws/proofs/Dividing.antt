@@ -14,7 +14,8 @@ use Rattle.hb_types.specs.declared.trail.Call.{Call}
 use Rattle.hb_model.specs.declared.reply.Reply.{Reply}
 use Rattle.hb_model.specs.declared.statement.Statement.{Statement}
 use Rattle.hb_model.specs.declared.statement.Statement.TheVariants as statement
-use Rattle.hb_model.specs.Answers.{call}
+use Rattle.hb_model.specs.Answers.{call, is_undoing}
+use Rattle.hb_model.specs.Outside.{says_undone}
 use Rattle.hb_model.specs.Items.{nothing_spent}
 use Rattle.hb_talk.specs.Ends.{fes1, rolling_back}
 use Rattle.hb_talk.specs.Moves.{fresh}
@@ -29,7 +30,7 @@ use Rattle.hb_faithful.proofs.Faithfuls.{given_up_faithful}
 use Rattle.hb_faithful.proofs.Rolling.{rolling_closes}
 use Rattle.hb_law.specs.Transactions.{IsRightStatement, begins_of}
 use Rattle.hb_itemlaws.specs.Dividing.{Divided, Given, TransactionsAreRight, statements}
-use Rattle.hb_itemlaws.proofs.Commits.{bare_beside, off, tells_decision, tells_off}
+use Rattle.hb_itemlaws.proofs.Commits.{asked_behind, bare_beside, off, outside_undone, tells_decision, tells_off}
 use Rattle.hb_itemlaws.specs.Owning.{NoBegin}
 use Rattle.hb_itemlaws.proofs.Ends.{undone_ends}
 use Rattle.hb_itemlaws.proofs.Goings.{Items, all_right, only}
@@ -57,7 +58,10 @@ unentered : (back_ends : ℕ) (st : Statement) (u : Use) (front back : List Call
     → IsRightStatement back_ends nothing_spent st (front ++ back) (Some (refusal_of mgr a))
 unentered back_ends statement.Commit u front back a opens closes within answers =
     let whole : AreBeside (front ++ back) = both front opens.beside in
-    (bare_beside (front ++ back) whole, tells_off (front ++ back) (refusal_of mgr a) (bare mgr a) (off (front ++ back) whole))
+    let says : IsTrue (says_undone (refusal_of mgr a)) = outside_undone (refusal_of mgr a) (rejects mgr a) in (
+      bare_beside (front ++ back) whole,
+      tells_off (front ++ back) (refusal_of mgr a) (bare mgr a) (off (front ++ back) whole) says (asked_behind is_undoing front back (closes.undone says)),
+    )
   where
     both : (xs : List Call) → AreBeside xs → AreBeside (xs ++ back)
     both [] b = closes.beside

@@ -1,5 +1,5 @@
 -- The items of a transaction that is given up.
-use Rattle.std.proofs.Common.{◌≡◌, ℕ, ◌≤◌, List, [], ◌∷◌, ◌++◌, Option, None, Some, Result, Ok, Bool, true, false, not, refl, subst, sym, ap, ◌∙◌}
+use Rattle.std.proofs.Common.{◌≡◌, ℕ, ◌≤◌, List, [], ◌∷◌, ◌++◌, Option, None, Some, Result, Ok, inr, Bool, true, false, not, refl, subst, sym, ap, ◌∙◌}
 use Rattle.std.specs.Prelude.{IsTrue, ◌≢◌, ⊤}
 use Rattle.std.proofs.lemmas.Bool.{false≢true}
 use Rattle.std.proofs.lemmas.List.{append-nil, append_assoc}
@@ -13,10 +13,10 @@ use Rattle.hb_model.specs.declared.reply.Reply.{Reply}
 use Rattle.hb_model.specs.declared.reply.Reply.TheVariants as reply
 use Rattle.hb_model.specs.declared.statement.Statement.{Statement}
 use Rattle.hb_model.specs.declared.statement.Statement.TheVariants as statement
-use Rattle.hb_model.specs.Answers.{call}
+use Rattle.hb_model.specs.Answers.{call, HasAsked, is_undoing}
 use Rattle.hb_model.specs.Items.{Item, Spent, calls_of, nothing_spent, spending}
 use Rattle.hb_talk.specs.Ends.{fes1}
-use Rattle.hb_model.specs.Outside.{is_outside}
+use Rattle.hb_model.specs.Outside.{is_outside, says_undone}
 use Rattle.hb_model.specs.Plain.{is_plain}
 use Rattle.hb_talk.specs.Moves.{fresh}
 use Rattle.hb_talk.specs.PlansDefine.{plan}
@@ -31,11 +31,11 @@ use Rattle.hb_law.specs.Transactions.{AreRight, IsRightStatement}
 use Rattle.hb_itemlaws.specs.Dividing.{AreItemsOf, Given}
 use Rattle.hb_itemlaws.specs.GivingUp.{Closed, ClosedAreRight, GivenUp, GivenUpAreRight, LeftOff, amid, behind, between, closing}
 use Rattle.hb_itemlaws.specs.Owning.{AreBegins, ClosedAreOwn, GivenUpAreOwn, NoBegin, StartsOwn, is_begin}
-use Rattle.hb_itemlaws.proofs.Commits.{bare_beside, off, tells_decision, tells_off}
+use Rattle.hb_itemlaws.proofs.Commits.{asked_behind, bare_beside, off, outside_undone, tells_decision, tells_off}
 use Rattle.hb_itemlaws.proofs.Dividing.{divided, fresh_within}
 use Rattle.hb_itemlaws.proofs.Goings.{Items, OthersStart, StartsOf, before, is_commit, item_of, kept_item, only}
 use Rattle.hb_itemlaws.proofs.Owned.{first_followed, first_plan, own_said, statement_unbegun, unbegun_followed}
-use Rattle.hb_itemlaws.proofs.OwnItems.{own_items}
+use Rattle.hb_itemlaws.proofs.OwnItems.{are_own}
 use Rattle.hb_itemlaws.proofs.OwnPlans.{owns_plan}
 use Rattle.hb_itemlaws.proofs.Splits.{over}
 
@@ -69,7 +69,11 @@ amid_right : (back_ends : ℕ) (st : Statement) (u : Use) (front asked back : Li
 amid_right back_ends statement.Commit u front asked back why outside opens closes within begins answers =
     let whole : List Call = front ++ (asked ++ back) in
     let beside : AreBeside whole = both_beside front (asked ++ back) opens.beside (both_beside asked back (none_begins back_ends u asked begins) closes.beside) in
-    (bare_beside whole beside, tells_off whole why (outside_bare why outside) (off whole beside))
+    let says : IsTrue (says_undone why) = outside_undone why outside in (
+      bare_beside whole beside,
+      tells_off whole why (outside_bare why outside) (off whole beside) says
+          (asked_behind is_undoing front (asked ++ back) (asked_behind is_undoing asked back (closes.undone says))),
+    )
 amid_right back_ends st u front asked back why outside opens closes within begins answers = (
   false,
   given_up_faithful st back_ends u (front ++ (asked ++ back)) why (spent_of u) within
@@ -190,17 +194,27 @@ module _ (back_ends : ℕ) (owner : Owner) (few : back_ends ≤ most_back_ends) 
       own = closing_starts rest.items rest.last (subst (StartsOf whose) (sym rest.made_of) starts) rest.own;
     }
 
-    closed_items : (works : List Given) (u : Use) (front asked : List Call) (replies : List Reply) → LeftOff back_ends false works u asked replies → IsOf whose u → StartsBehind replies → Opens front → IsWithin u
+    closed_items : (works : List Given) (u : Use) (front asked : List Call) (replies : List Reply) → LeftOff back_ends false works u asked replies → IsTrue (is_outside why) → IsOf whose u → StartsBehind replies → Opens front → IsWithin u
         → Each (λ w. IsTrue (is_plain w.1)) works → AreAnswers (front ++ (asked ++ back)) → ClosedItems back_ends place whose works (spent_of u) (front ++ (asked ++ back)) replies why
-    closed_items works u front _ _ between e starts opens within plain answers =
-        record { items = []; last = front ++ back; made_of = refl; each = no_items works; right = ((undecided (front ++ back) (both_beside front back opens.beside closes.beside), bare_beside (front ++ back) (both_beside front back opens.beside closes.beside)), tt); own = tt }
-    closed_items _ u front _ _ (behind {w} {ws} {v} {asked = xs} {calls = cs} {o} {replies = rs} planned follows stays left) e starts opens within plain answers =
+    closed_items works u front _ _ between outside e starts opens within plain answers =
+        let beside : AreBeside (front ++ back) = both_beside front back opens.beside closes.beside in
+        let says : IsTrue (says_undone why) = outside_undone why outside in
+        let undone : HasAsked is_undoing (front ++ back) = asked_behind is_undoing front back (closes.undone says) in
+        record {
+          items = [];
+          last = front ++ back;
+          made_of = refl;
+          each = no_items works;
+          right = ((undecided (front ++ back) beside, bare_beside (front ++ back) beside, (inr (says, undone), tt)), tt);
+          own = tt;
+        }
+    closed_items _ u front _ _ (behind {w} {ws} {v} {asked = xs} {calls = cs} {o} {replies = rs} planned follows stays left) outside e starts opens within plain answers =
         let open_still = plan_tells_undone w.1 planned back_ends u v xs o follows ∙ stays in
         let of_tx = still_of back_ends whose w.1 u v xs o e follows in
         let starting : StartsOf whose back = starts (λ x. absurd (cc x)) in
         let item = kept_item back_ends owner few u.tx w ws plain.0 (uncommitted w.1 planned) u v front xs (cs ++ back) o opens within follows open_still
         (subst (λ zs. AreAnswers (front ++ zs)) (append_assoc xs cs back) answers) in
-        let rest = closed_items ws v [] cs rs left of_tx (λ x. starting) (record { beside = tt; no_rows = refl }) item.within plain.1 item.behind in
+        let rest = closed_items ws v [] cs rs left outside of_tx (λ x. starting) (record { beside = tt; no_rows = refl }) item.within plain.1 item.behind in
         cons w ws u v (front ++ xs) (cs ++ back) (front ++ ((xs ++ cs) ++ back)) (reply_in o) rs item.right item.spent (regroup front xs cs back)
         (left_starts back_ends whose false ws v cs back rs left of_tx starting) rest
 
@@ -221,7 +235,7 @@ module _ (back_ends : ℕ) (works : List Given) (calls : List Call) (replies : L
       → ClosedItems back_ends place whose works nothing_spent calls replies why
   closed_whole whose place g e starts =
       subst (λ cs. ClosedItems back_ends place whose works nothing_spent cs replies why) (sym g.parts)
-      (closed_items back_ends nobody few whose why g.back g.closes place works (fresh g.tx) g.front g.asked replies g.left e starts g.opens (fresh_within g.tx) plain (subst AreAnswers g.parts answers))
+      (closed_items back_ends nobody few whose why g.back g.closes place works (fresh g.tx) g.front g.asked replies g.left g.outside e starts g.opens (fresh_within g.tx) plain (subst AreAnswers g.parts answers))
 
 pub given_up_right : GivenUpAreRight
 given_up_right back_ends works calls replies why few plain g answers =
@@ -246,12 +260,12 @@ pub given_up_own : GivenUpAreOwn
 given_up_own back_ends owner works calls replies why few plain g answers sys (more, whole, quiet) starts =
     let i = amid_whole back_ends works calls replies why few plain answers (Some g.tx) g refl starts in
     let c : Call = call fes1 (request.Begin owner) (answer.Begun (record { 0 = g.tx })) in
-    (divided back_ends (Some g.tx) works calls (replies ++ why ∷ []) i, own_items g.tx i.items c more refl refl i.own (i.made_of ∙ whole) quiet (subst AreBegins whole sys).1)
+    (divided back_ends (Some g.tx) works calls (replies ++ why ∷ []) i, are_own g.tx i.items c more refl refl i.own (i.made_of ∙ whole) quiet (subst AreBegins whole sys).1)
 
 pub closed_own : ClosedAreOwn
 closed_own back_ends place owner works calls replies why few plain g answers sys (more, whole, quiet) starts =
     let i = closed_whole back_ends works calls replies why few plain answers (Some g.tx) place g refl starts in
     let c : Call = call fes1 (request.Begin owner) (answer.Begun (record { 0 = g.tx })) in (
       closed back_ends place (Some g.tx) works calls replies why i,
-      own_items g.tx (i.items ++ closing place i.last why ∷ []) c more refl refl i.own (calls_behind i.items place i.last why ∙ i.made_of ∙ whole) quiet (subst AreBegins whole sys).1,
+      are_own g.tx (i.items ++ closing place i.last why ∷ []) c more refl refl i.own (calls_behind i.items place i.last why ∙ i.made_of ∙ whole) quiet (subst AreBegins whole sys).1,
     )

@@ -9,3 +9,4 @@ pub mod Dividing
 pub mod OwnItems
 pub mod GivingUp
 pub mod Kept
+mod Idle

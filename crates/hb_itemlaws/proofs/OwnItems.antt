@@ -1,6 +1,6 @@
--- Of a transaction's items with calls the first begins it, and each other asks something of it.
-use Rattle.std.proofs.Common.{◌≡◌, inl, ℕ, List, [], ◌∷◌, ◌++◌, Some, None, true, false, refl, subst, sym, ap, ◌∙◌}
-use Rattle.std.specs.Prelude.{IsTrue}
+-- Of a transaction's items that are not idle the first begins it, and each other asks something of it or nothing at all.
+use Rattle.std.proofs.Common.{◌≡◌, inl, inr, ◌⊎◌, ℕ, List, [], ◌∷◌, ◌++◌, Some, None, Bool, true, false, refl, subst, sym, ap, ◌∙◌}
+use Rattle.std.specs.Prelude.{IsTrue, if◌then◌else◌}
 use Rattle.std.proofs.lemmas.Bool.{false≢true}
 use Rattle.hb_types.specs.declared.answer.Answer.{Answer}
 use Rattle.hb_types.specs.declared.answer.Answer.TheVariants as answer
@@ -8,19 +8,19 @@ use Rattle.hb_types.specs.declared.names.Owner.{Owner}
 use Rattle.hb_types.specs.declared.request.Request.{Request}
 use Rattle.hb_types.specs.declared.request.Request.TheVariants as request
 use Rattle.hb_types.specs.declared.trail.Call.{Call}
-use Rattle.hb_types.specs.Lists.{Each}
+use Rattle.hb_types.specs.Lists.{Each, Has}
 use Rattle.hb_types.proofs.Ascending.{Each-back, Each-front}
-use Rattle.hb_model.specs.declared.reply.Reply.{Reply}
 use Rattle.hb_model.specs.Answers.{call}
-use Rattle.hb_model.specs.Items.{Doing, Item, calls_of}
+use Rattle.hb_model.specs.Items.{Item, calls_of}
 use Rattle.hb_talk.specs.Ends.{fes1}
 use Rattle.hb_talk.specs.Sessions.{transaction}
 use Rattle.hb_talk.specs.Talk.{Follows, asked, refusal_of}
 use Rattle.hb_law.specs.Callers.{is_begun}
-use Rattle.hb_law.specs.Transactions.{AllAsk, begins_of, begun_in, tx_asked, with_calls}
-use Rattle.hb_itemlaws.specs.Owning.{AreBegins, AreOwn, NoBegin, StartsOwn, TransactionsAreOwn, UnbegunAskNothing, is_begin}
+use Rattle.hb_law.specs.Transactions.{BeginsIt, begins_of, begun_in, is_idle, own_items, tx_asked}
+use Rattle.hb_itemlaws.specs.Owning.{AreBegins, AreOwn, AskOwn, NoBegin, StartsOwn, TransactionsAreOwn, UnbegunAskNothing, is_begin}
 use Rattle.hb_itemlaws.proofs.Dividing.{begun_items, divided}
 use Rattle.hb_itemlaws.proofs.Goings.{OthersStart}
+use Rattle.hb_itemlaws.proofs.Idle.{asks_not_idle}
 use Rattle.hb_itemlaws.proofs.Owned.{none_is_some}
 use Rattle.hb_itemlaws.specs.Dividing.{statements}
 use Rattle.hb_itemlaws.proofs.Splits.{goes_on, over}
@@ -47,15 +47,19 @@ module _ (tx : ℕ) where
 
   -- ---- items behind the first
 
-  ask_one : (place : ℕ) (doing : Doing) (calls : List Call) (lines : List Reply) (is : List Item) → StartsOwn tx calls → begins_of calls ≡ [] → AllAsk tx (with_calls is)
-      → AllAsk tx (with_calls (record { place = place; doing = doing; calls = calls; lines = lines } ∷ is))
-  ask_one place doing [] lines is starts none more = more
-  ask_one place doing (c ∷ cs) lines is starts none more = ((none, inl starts), more)
+  asks_own : (calls : List Call) → StartsOwn tx calls → Has (λ c. tx_asked c.request ≡ Some tx) calls ⊎ (calls ≡ [])
+  asks_own [] starts = inr refl
+  asks_own (c ∷ cs) starts = inl (inl starts)
 
-  all_ask : (items : List Item) → Each Starts items → NoBegin (calls_of items) → AreBegins (calls_of items) → AllAsk tx (with_calls items)
+  ask_one : (i : Item) (is : List Item) (b : Bool) → StartsOwn tx i.calls → begins_of i.calls ≡ [] → AskOwn tx (own_items is)
+      → AskOwn tx (if b then own_items is else i ∷ own_items is)
+  ask_one i is true starts none more = more
+  ask_one i is false starts none more = ((none, asks_own i.calls starts), more)
+
+  all_ask : (items : List Item) → Each Starts items → NoBegin (calls_of items) → AreBegins (calls_of items) → AskOwn tx (own_items items)
   all_ask [] starts plain sys = tt
   all_ask (i ∷ is) starts plain sys =
-      ask_one i.place i.doing i.calls i.lines is starts.0 (begins_none i.calls (Each-front IsNoBegin i.calls (calls_of is) plain) (Each-front IsOfSystem i.calls (calls_of is) sys))
+      ask_one i is (is_idle i) starts.0 (begins_none i.calls (Each-front IsNoBegin i.calls (calls_of is) plain) (Each-front IsOfSystem i.calls (calls_of is) sys))
       (all_ask is starts.1 (Each-back IsNoBegin i.calls (calls_of is) plain) (Each-back IsOfSystem i.calls (calls_of is) sys))
 
   -- ---- the first
@@ -81,27 +85,39 @@ module _ (tx : ℕ) where
   answer_in [] other = other
   answer_in (c ∷ cs) other = c.answer
 
-  own_one : (place : ℕ) (doing : Doing) (calls : List Call) (lines : List Reply) (is : List Item) (c : Call) (more : List Call) → tx_asked c.request ≡ None → begun_in c.answer ≡ tx ∷ []
-      → Each Starts is → calls ++ calls_of is ≡ c ∷ more → NoBegin more → AreBegins more → AreOwn tx (record { place = place; doing = doing; calls = calls; lines = lines } ∷ is)
-  own_one place doing [] lines is c more none begun starts e plain sys = absurd (begun_first is c more none starts e)
-  own_one place doing (x ∷ xs) lines is c more none begun starts e plain sys =
+  begun_by : (x c : Call) (xs rest more : List Call) → x ∷ (xs ++ rest) ≡ c ∷ more → begun_in c.answer ≡ tx ∷ [] → NoBegin xs → AreBegins xs → BeginsIt tx (x ∷ xs)
+  begun_by x c xs rest more e begun plain sys = record {
+    before = [];
+    begin = x;
+    more = xs;
+    parts = refl;
+    begun = ap (λ zs. zs ++ []) (ap (λ zs. begun_in (answer_in zs x.answer)) e ∙ begun);
+    apart = tt;
+    none_before = refl;
+    none_behind = begins_none xs plain sys;
+  }
+
+  own_one : (i : Item) (is : List Item) (calls : List Call) → i.calls ≡ calls → (c : Call) (more : List Call) → tx_asked c.request ≡ None → begun_in c.answer ≡ tx ∷ []
+      → Each Starts is → calls ++ calls_of is ≡ c ∷ more → NoBegin more → AreBegins more → AreOwn tx (i ∷ is)
+  own_one i is [] its c more none begun starts e plain sys = absurd (begun_first is c more none starts e)
+  own_one i is (x ∷ xs) its c more none begun starts e plain sys =
       let same : xs ++ calls_of is ≡ more = ap tail_calls e in
       let quiet = subst NoBegin (sym same) plain in
       let known = subst AreBegins (sym same) sys in
       record {
-        first = record { place = place; doing = doing; calls = x ∷ xs; lines = lines };
-        others = with_calls is;
-        own = refl;
-        begins = ap (λ zs. zs ++ begins_of xs) (ap (λ zs. begun_in (answer_in zs x.answer)) e ∙ begun)
-            ∙ ap (λ zs. tx ∷ zs) (begins_none xs (Each-front IsNoBegin xs (calls_of is) quiet) (Each-front IsOfSystem xs (calls_of is) known));
+        first = i;
+        others = own_items is;
+        own = ap (λ b. if b then own_items is else i ∷ own_items is) (asks_not_idle i x xs its);
+        begins = subst (BeginsIt tx) (sym its)
+            (begun_by x c xs (calls_of is) more e begun (Each-front IsNoBegin xs (calls_of is) quiet) (Each-front IsOfSystem xs (calls_of is) known));
         asked = all_ask is starts (Each-back IsNoBegin xs (calls_of is) quiet) (Each-back IsOfSystem xs (calls_of is) known);
       }
 
   -- calls that begin with this transaction's Begin
-  pub own_items : (items : List Item) (c : Call) (more : List Call) → tx_asked c.request ≡ None → begun_in c.answer ≡ tx ∷ [] → OthersStart (Some tx) items → calls_of items ≡ c ∷ more
+  pub are_own : (items : List Item) (c : Call) (more : List Call) → tx_asked c.request ≡ None → begun_in c.answer ≡ tx ∷ [] → OthersStart (Some tx) items → calls_of items ≡ c ∷ more
       → NoBegin more → AreBegins more → AreOwn tx items
-  own_items [] c more none begun own e plain sys = absurd (cc e)
-  own_items (i ∷ is) c more none begun own e plain sys = own_one i.place i.doing i.calls i.lines is c more none begun own e plain sys
+  are_own [] c more none begun own e plain sys = absurd (cc e)
+  are_own (i ∷ is) c more none begun own e plain sys = own_one i is i.calls refl c more none begun own e plain sys
 
 -- ---- the laws
 
@@ -112,7 +128,7 @@ transactions_own back_ends owner w ws calls replies few plain follows answers sy
     let known = subst AreBegins b.whole sys in (
       divided back_ends (Some b.tx.0) (w ∷ ws) calls replies b.items,
       b.tx.0,
-      own_items b.tx.0 b.items.items c b.more refl refl b.items.own (b.items.made_of ∙ b.whole) b.no_begin known.1,
+      are_own b.tx.0 b.items.items c b.more refl refl b.items.own (b.items.made_of ∙ b.whole) b.no_begin known.1,
     )
 
 pub unbegun_nothing : UnbegunAskNothing

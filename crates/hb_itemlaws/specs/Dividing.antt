@@ -11,7 +11,7 @@ use Rattle.hb_talk.specs.Sessions.{transaction}
 use Rattle.hb_talk.specs.Talk.{Follows}
 use Rattle.hb_planlaws.specs.Planned.{most_back_ends}
 use Rattle.hb_faithful.specs.Planned.{AreAnswers}
-use Rattle.hb_law.specs.Transactions.{AreRight, IsRightTxn, begins_of, with_calls}
+use Rattle.hb_law.specs.Transactions.{AreOfAKind, AreRight, begins_of, own_items}
 
 -- a statement, and its place in the script
 abbrev pub Given : Type 0
@@ -40,8 +40,12 @@ TransactionsAreRight =
     → Each (λ w. IsTrue (is_plain w.1)) (work ∷ works) → Follows false (transaction back_ends owner (statements (work ∷ works))) calls replies
     → AreAnswers calls → begins_of calls ≢ [] → Divided back_ends (work ∷ works) calls replies
 
--- Of a division, the items that made a call are those of a right transaction.
+-- a transaction's items are right, and are statements, each with its reply
+pub record AreRightItems (back_ends : ℕ) (items : List Item) : Type 0 where
+  pub right : AreRight back_ends nothing_spent items
+  pub kinds : AreOfAKind items
+
+-- Of a division, the items that are not idle are right.
 abbrev pub TxnsAreRight : Type 0
 TxnsAreRight =
-    (back_ends : ℕ) (owner : Owner) (tx : ℕ) (works : List Given) (calls : List Call) (replies : List Reply) → (d : Divided back_ends works calls replies)
-    → IsRightTxn back_ends (record { owner = owner; tx = tx; items = with_calls d.items })
+    (back_ends : ℕ) (works : List Given) (calls : List Call) (replies : List Reply) → (d : Divided back_ends works calls replies) → AreRightItems back_ends (own_items d.items)

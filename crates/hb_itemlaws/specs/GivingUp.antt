@@ -1,6 +1,5 @@
 -- A transaction that is given up: how far it came, and the items that the whole is made of.
 use Rattle.std.specs.Prelude.{◌≡◌, ℕ, ◌≤◌, Bool, true, false, IsTrue, List, [], ◌∷◌, ◌++◌, Result}
-use Rattle.hb_types.specs.declared.names.Owner.{Owner}
 use Rattle.hb_types.specs.declared.trail.Call.{Call}
 use Rattle.hb_types.specs.Lists.{Each}
 use Rattle.hb_model.specs.declared.reply.Reply.{Reply}
@@ -13,8 +12,8 @@ use Rattle.hb_talk.specs.Talk.{Begins, Follows, Use}
 use Rattle.hb_plancalc.specs.Counted.{reply_in}
 use Rattle.hb_planlaws.specs.Planned.{most_back_ends}
 use Rattle.hb_faithful.specs.Planned.{AreAnswers, Closes, Opens, is_planned, is_rolled_back}
-use Rattle.hb_law.specs.Transactions.{AreRight, IsRightTxn, with_calls}
-use Rattle.hb_itemlaws.specs.Dividing.{AreItemsOf, Divided, Given}
+use Rattle.hb_law.specs.Transactions.{AreRight, own_items}
+use Rattle.hb_itemlaws.specs.Dividing.{AreItemsOf, AreRightItems, Divided, Given}
 
 -- What was asked and said from a use on, up to where the transaction is given up: amid the plan of a statement, or between two.
 -- Each statement before had its reply, and left the transaction open.
@@ -65,8 +64,8 @@ ClosedAreRight =
     (back_ends place : ℕ) (works : List Given) (calls : List Call) (replies : List Reply) (why : Reply) → back_ends ≤ most_back_ends → Each (λ w. IsTrue (is_plain w.1)) works
     → GivenUp back_ends false works calls replies why → AreAnswers calls → Closed back_ends place works calls replies why
 
--- of such items, too, those that made a call are a right transaction
+-- of such items, too, those that are not idle are right
 abbrev pub ClosedTxnsAreRight : Type 0
 ClosedTxnsAreRight =
-    (back_ends place : ℕ) (owner : Owner) (tx : ℕ) (works : List Given) (calls : List Call) (replies : List Reply) (why : Reply) → (c : Closed back_ends place works calls replies why)
-    → IsRightTxn back_ends (record { owner = owner; tx = tx; items = with_calls (c.items ++ closing place c.last why ∷ []) })
+    (back_ends place : ℕ) (works : List Given) (calls : List Call) (replies : List Reply) (why : Reply) → (c : Closed back_ends place works calls replies why)
+    → AreRightItems back_ends (own_items (c.items ++ closing place c.last why ∷ []))

@@ -10,7 +10,7 @@ pub fn transactions_are_right()
     ensures { TransactionsAreRight }
 {}
 
-/// Of the items that a transaction is made of, those that made a call are a right transaction: statements, each with its one reply.
+/// Of the items that a transaction is made of, those that are not idle are right: statements, each with its one reply.
 pub fn txns_are_right()
     ensures { TxnsAreRight }
 {}
@@ -27,12 +27,12 @@ pub fn closed_are_right()
     ensures { ClosedAreRight }
 {}
 
-/// Of these items, too, those that made a call are a right transaction.
+/// Of these items, too, those that are not idle are right.
 pub fn closed_txns_are_right()
     ensures { ClosedTxnsAreRight }
 {}
 
-/// Where answers are a system's, the first of a transaction's items that made a call begins it, and each other asks something of it.
+/// Where answers are a system's, the first of a transaction's items that are not idle begins it, and each other asks something of it or nothing.
 pub fn transactions_are_own()
     ensures { TransactionsAreOwn }
 {}
