@@ -8,7 +8,7 @@ ghost use Rattle.hb_session.specs.Sitting.{in_transaction as has_transaction, is
 ghost use Rattle.hb_session.specs.Steps.{SameSession, Stepped, EndsOn, TurnIs, Gives, Abandons, Closes, is_busy_fault};
 ghost use Rattle.hb_session.specs.declared.stage.Stage.TheVariants as stage_of;
 
-use crate::stage::Stage;
+use crate::stage::{Given, Stage};
 use hb_access::Usage;
 use hb_model::{Reply, Statement};
 use hb_node::Nodes;
@@ -75,7 +75,7 @@ impl Model for Session {
 fn not_taken(statement: Statement) -> Result<(), GiveFault>
     ensures { result ≡ Err fault.Busy }
 {
-    let _ = statement;
+    let _ = Given { statement };
     Err(GiveFault::Busy)
 }
 
