@@ -46,13 +46,24 @@ pub enum Turn {
 }
 
 /// One session, with the transaction that it is in.
-#[derive(Drop)]
 pub struct Session {
     pub(crate) alloc: Global,
     pub(crate) index: u8,
     pub(crate) back_ends: u8,
     pub(crate) begun: u64,
     pub(crate) stage: Stage,
+}
+
+impl Drop for Session {
+    fn drop(self) {
+        let Session {
+            alloc: _,
+            index: _,
+            back_ends: _,
+            begun: _,
+            stage: _,
+        } = self;
+    }
 }
 
 impl Model for Session {
