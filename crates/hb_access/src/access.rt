@@ -49,10 +49,15 @@ pub enum Taken {
 }
 
 /// A lock with what lies under it, or a write.
-#[derive(Drop)]
 pub struct Access {
     pub(crate) usage: Usage,
     pub(crate) stage: Stage,
+}
+
+impl Drop for Access {
+    fn drop(self) {
+        let Access { usage: _, stage: _ } = self;
+    }
 }
 
 impl Model for Access {

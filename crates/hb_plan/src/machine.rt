@@ -16,9 +16,14 @@ use std::alloc::Global;
 use std::marker::Model;
 
 /// The plan of one statement.
-#[derive(Drop)]
 pub struct Plan {
     stage: Stage,
+}
+
+impl Drop for Plan {
+    fn drop(self) {
+        let Plan { stage: _ } = self;
+    }
 }
 
 impl Model for Plan {

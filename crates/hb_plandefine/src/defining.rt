@@ -33,10 +33,15 @@ pub enum Taken {
 }
 
 /// A statement of CREATE or ALTER.
-#[derive(Drop)]
 pub struct Defining {
     alloc: Global,
     stage: Stage,
+}
+
+impl Drop for Defining {
+    fn drop(self) {
+        let Defining { alloc: _, stage: _ } = self;
+    }
 }
 
 impl Model for Defining {

@@ -44,12 +44,22 @@ pub enum Taken {
 }
 
 /// The plan of a statement on the table of a name.
-#[derive(Drop)]
 pub struct QueryPlan {
     alloc: Global,
     name: Text,
     query: Query,
     stage: Stage,
+}
+
+impl Drop for QueryPlan {
+    fn drop(self) {
+        let QueryPlan {
+            alloc: _,
+            name: _,
+            query: _,
+            stage: _,
+        } = self;
+    }
 }
 
 impl Model for QueryPlan {

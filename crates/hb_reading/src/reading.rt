@@ -43,12 +43,22 @@ pub enum Taken {
 }
 
 /// What a statement reads of a table.
-#[derive(Drop)]
 pub struct Reading {
     alloc: Global,
     table: u16,
     aim: Aim,
     stage: Stage,
+}
+
+impl Drop for Reading {
+    fn drop(self) {
+        let Reading {
+            alloc: _,
+            table: _,
+            aim: _,
+            stage: _,
+        } = self;
+    }
 }
 
 impl Model for Reading {

@@ -26,7 +26,6 @@ pub enum Taken {
 }
 
 /// Accesses in areas, one after another, and the rows that came of them.
-#[derive(Drop)]
 pub struct Round {
     alloc: Global,
     access: Access,
@@ -35,6 +34,20 @@ pub struct Round {
     areas: Items<u16>,
     at: usize,
     found: Items<Stored>,
+}
+
+impl Drop for Round {
+    fn drop(self) {
+        let Round {
+            alloc: _,
+            access: _,
+            sweep: _,
+            area: _,
+            areas: _,
+            at: _,
+            found: _,
+        } = self;
+    }
 }
 
 impl Model for Round {

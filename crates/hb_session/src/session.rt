@@ -8,7 +8,7 @@ ghost use Rattle.hb_session.specs.Sitting.{in_transaction as has_transaction, is
 ghost use Rattle.hb_session.specs.Steps.{SameSession, Stepped, EndsOn, TurnIs, Gives, Abandons, Closes, is_busy_fault};
 ghost use Rattle.hb_session.specs.declared.stage.Stage.TheVariants as stage_of;
 
-use crate::stage::Stage;
+use crate::stage::{Given, Stage};
 use hb_access::Usage;
 use hb_model::{Reply, Statement};
 use hb_node::Nodes;
@@ -46,13 +46,24 @@ pub enum Turn {
 }
 
 /// One session, with the transaction that it is in.
-#[derive(Drop)]
 pub struct Session {
     pub(crate) alloc: Global,
     pub(crate) index: u8,
     pub(crate) back_ends: u8,
     pub(crate) begun: u64,
     pub(crate) stage: Stage,
+}
+
+impl Drop for Session {
+    fn drop(self) {
+        let Session {
+            alloc: _,
+            index: _,
+            back_ends: _,
+            begun: _,
+            stage: _,
+        } = self;
+    }
 }
 
 impl Model for Session {
@@ -75,7 +86,7 @@ impl Model for Session {
 fn not_taken(statement: Statement) -> Result<(), GiveFault>
     ensures { result ≡ Err fault.Busy }
 {
-    let _ = statement;
+    let _ = Given { statement };
     Err(GiveFault::Busy)
 }
 

@@ -47,11 +47,20 @@ pub enum Taken {
 }
 
 /// The writes of a statement, one after another, and its reply.
-#[derive(Drop)]
 pub struct Writing {
     access: Access,
     left: IntoIter<Change, Global>,
     reply: Reply,
+}
+
+impl Drop for Writing {
+    fn drop(self) {
+        let Writing {
+            access: _,
+            left: _,
+            reply: _,
+        } = self;
+    }
 }
 
 impl Model for Writing {
