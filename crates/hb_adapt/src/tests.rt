@@ -1,7 +1,6 @@
 // Each adapter once over the real system.
 use crate::{FileDisk, OpenGate, Stdin, Stdout};
 use hb_edge::{Clock, Disk, Failed, Gate, Sink, Source};
-use hb_types::Text;
 use std::test::Fail;
 use std::{fs, io};
 
@@ -11,16 +10,21 @@ fn failed(_: Failed) -> &'static str {
     "the device failed"
 }
 
+/// Writes four bytes, and closes the file.
+fn write(rt: &HostRuntime, clock: &mut Clock) -> Result<(), Fail> {
+    let mut disk = FileDisk::new(rt, NAME);
+    disk.cut(clock, 0).map_err(failed)?;
+    disk.write_at(clock, 2, b"abc").map_err(failed)?;
+    disk.cut(clock, 4).map_err(failed)?;
+    disk.sync(clock).map_err(failed)?;
+    Ok(())
+}
+
 #[test]
 fn a_file_keeps_what_was_written(rt: HostRuntime) -> Result<(), Fail> {
-    let name = Text::new(NAME.as_bytes().to_vec(rt.alloc())?);
     let mut clock = Clock::new();
-    let mut disk = FileDisk::new(&rt, &name);
-    disk.cut(&mut clock, 0).map_err(failed)?;
-    disk.write_at(&mut clock, 2, b"abc").map_err(failed)?;
-    disk.cut(&mut clock, 4).map_err(failed)?;
-    disk.sync(&mut clock).map_err(failed)?;
-    let mut again = FileDisk::new(&rt, &name);
+    write(&rt, &mut clock)?;
+    let mut again = FileDisk::new(&rt, NAME);
     again.restart(&mut clock).map_err(failed)?;
     assert_eq!(rt; again.length(&mut clock).map_err(failed)?, 4);
     let mut piece = [7u8; 6];
@@ -33,9 +37,8 @@ fn a_file_keeps_what_was_written(rt: HostRuntime) -> Result<(), Fail> {
 
 #[test]
 fn a_file_that_can_not_be_opened_fails(rt: HostRuntime) -> Result<(), Fail> {
-    let name = Text::new(b"no/such/folder/file".as_slice().to_vec(rt.alloc())?);
     let mut clock = Clock::new();
-    let mut disk = FileDisk::new(&rt, &name);
+    let mut disk = FileDisk::new(&rt, "no/such/folder/file");
     assert_eq!(rt; disk.length(&mut clock), Err(Failed));
     assert_eq!(rt; disk.sync(&mut clock), Err(Failed));
     Ok(())
