@@ -3,27 +3,21 @@ ghost use Rattle.std.specs.Prelude.{◌≡◌, max, ◌≤◌};
 ghost use Rattle.hb_edge.specs.Causes.{HasCause};
 ghost use Rattle.hb_edge.specs.Moments.{tick};
 
+use crate::files::{discard, open};
 use hb_edge::{Clock, Disk, Failed};
-use hb_types::Text;
-use std::fs::{File, OpenFile, OpenOptions};
+use std::fs::File;
+use std::io;
 use std::os::unix::fs::FileExt;
 use std::rt::Files;
-use std::{io, str};
 
-/// A file of the current folder. Where it can't be opened or made, each call fails.
+/// A file of the current folder that nobody else has. Where it can't be opened, made or taken, each call fails.
 #[derive(Drop)]
 pub struct FileDisk {
-    file: Option<File>,
+    file: io::Result<File>,
+    is_made: bool,
+    cause: Option<io::Error>,
     last: u128,
     faults: u64,
-}
-
-/// Opens the file or makes it, and syncs its folder, so that a file that was made stays.
-fn open<R: Files<File = File>>(rt: &R, name: &str) -> io::Result<File> {
-    let mut options = OpenOptions::new();
-    let file = options.read(true).write(true).create(true).open(rt, name)?;
-    File::open(rt, ".")?.sync_all()?;
-    Ok(file)
 }
 
 /// Fills the piece from a place on, with 0 past the end.
@@ -44,24 +38,57 @@ fn read_whole(file: &File, at: u64, into: &mut [u8]) -> io::Result<()> {
     Ok(())
 }
 
+/// Takes away what lies past a length.
+fn cut_to(file: &File, length: u64) -> io::Result<()> {
+    if length < file.metadata()?.len() {
+        file.set_len(length)?;
+    }
+    Ok(())
+}
+
 impl FileDisk {
-    pub fn new<R: Files<File = File>>(rt: &R, name: &Text) -> Self
+    pub fn new<R: Files<File = File>>(rt: &R, name: &str) -> Self
         ensures last { result.last ≡ 0 }
         ensures faults { result.faults ≡ 0 }
     {
-        let file = match str::from_utf8(name.as_slice()) {
-            Ok(name) => open(rt, name).ok(),
-            Err(_) => None,
-        };
+        let (file, is_made) = open(rt, name);
+        let cause = file.as_ref().err().copied();
         FileDisk {
             file,
+            is_made,
+            cause,
             last: 0,
             faults: 0,
         }
     }
 
+    /// What the system said of the opening, if it failed, else of the first call that did.
+    pub fn cause(&self) -> Option<io::Error> {
+        self.cause
+    }
+
+    /// Takes the file of this name, which is this disk's, out of its folder again where this disk made it and it is empty.
+    pub fn discard<R: Files>(&self, rt: &R, name: &str) {
+        if let Ok(file) = &self.file {
+            if self.is_made {
+                discard(rt, name, file);
+            }
+        }
+    }
+
+    fn opened(&self) -> io::Result<&File> {
+        match &self.file {
+            Ok(file) => Ok(file),
+            Err(cause) => Err(*cause),
+        }
+    }
+
+    fn measure(&self) -> io::Result<u64> {
+        Ok(self.opened()?.metadata()?.len())
+    }
+
     /// One call more. The answer of the system, with its count of faults.
-    fn answer<T>(&mut self, clock: &mut Clock, answer: Option<T>) -> Result<T, Failed>
+    fn answer<T>(&mut self, clock: &mut Clock, answer: io::Result<T>) -> Result<T, Failed>
         ensures clock { clock.new ≡ tick clock.old }
         ensures last { self.new.last ≡ max self.old.last clock.new }
         ensures cause { HasCause self.old.faults self.new.faults result }
@@ -69,8 +96,9 @@ impl FileDisk {
         clock.tick();
         self.last = self.last.max(clock.moment());
         match answer {
-            Some(value) => Ok(value),
-            None => {
+            Ok(value) => Ok(value),
+            Err(cause) => {
+                self.cause = self.cause.or(Some(cause));
                 self.faults = self.faults.saturating_add(1);
                 Err(Failed)
             }
@@ -96,39 +124,27 @@ impl Disk for FileDisk {
     ghost stands_on = { λ disk m image later is. is };
 
     fn length(&mut self, clock: &mut Clock) -> Result<u64, Failed> {
-        let data = self.file.as_ref().and_then(|file| file.metadata().ok());
-        self.answer(clock, data.map(|data| data.len()))
+        let length = self.measure();
+        self.answer(clock, length)
     }
 
     fn read(&mut self, clock: &mut Clock, at: u64, into: &mut [u8]) -> Result<(), Failed> {
-        let done = match &self.file {
-            Some(file) => read_whole(file, at, into).ok(),
-            None => None,
-        };
+        let done = self.opened().and_then(|file| read_whole(file, at, into));
         self.answer(clock, done)
     }
 
     fn write_at(&mut self, clock: &mut Clock, at: u64, bytes: &[u8]) -> Result<(), Failed> {
-        let done = match &self.file {
-            Some(file) => file.write_all_at(bytes, at).ok(),
-            None => None,
-        };
+        let done = self.opened().and_then(|file| file.write_all_at(bytes, at));
         self.answer(clock, done)
     }
 
     fn cut(&mut self, clock: &mut Clock, length: u64) -> Result<(), Failed> {
-        let done = match &self.file {
-            Some(file) => cut_to(file, length).ok(),
-            None => None,
-        };
+        let done = self.opened().and_then(|file| cut_to(file, length));
         self.answer(clock, done)
     }
 
     fn sync(&mut self, clock: &mut Clock) -> Result<(), Failed> {
-        let done = match &self.file {
-            Some(file) => file.sync_data().ok(),
-            None => None,
-        };
+        let done = self.opened().and_then(|file| file.sync_data());
         self.answer(clock, done)
     }
 
@@ -136,12 +152,4 @@ impl Disk for FileDisk {
     fn restart(&mut self, clock: &mut Clock) -> Result<(), Failed> {
         self.sync(clock)
     }
-}
-
-/// Takes away what lies past a length.
-fn cut_to(file: &File, length: u64) -> io::Result<()> {
-    if length < file.metadata()?.len() {
-        file.set_len(length)?;
-    }
-    Ok(())
 }

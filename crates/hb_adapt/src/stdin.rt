@@ -2,7 +2,8 @@
 ghost use Rattle.std.specs.Prelude.{◌≡◌, ◌^◌};
 
 use hb_edge::{Failed, Source};
-use std::io::Read;
+use std::io;
+use std::io::{ErrorKind, Read};
 
 const MOST: u64 = 1 << 62;
 
@@ -11,6 +12,7 @@ const MOST: u64 = 1 << 62;
 pub struct Stdin<I: Read> {
     reader: I,
     room: u64,
+    cause: Option<io::Error>,
     faults: u64,
 }
 
@@ -22,8 +24,14 @@ impl<I: Read> Stdin<I> {
         Stdin {
             reader,
             room: MOST,
+            cause: None,
             faults: 0,
         }
+    }
+
+    /// What the system said of the first call that failed.
+    pub fn cause(&self) -> Option<io::Error> {
+        self.cause
     }
 }
 
@@ -41,12 +49,17 @@ impl<I: Read> Source for Stdin<I> {
             return Ok(0);
         }
         let most = (into.len() as u64).min(self.room) as usize;
+        let mut cause = io::Error::from(ErrorKind::FileTooLarge);
         if most > 0 {
-            if let Ok(count) = self.reader.read(&mut into[..most]) {
-                self.room -= count as u64;
-                return Ok(count);
+            match self.reader.read(&mut into[..most]) {
+                Ok(count) => {
+                    self.room -= count as u64;
+                    return Ok(count);
+                }
+                Err(found) => cause = found,
             }
         }
+        self.cause = self.cause.or(Some(cause));
         self.faults = self.faults.saturating_add(1);
         Err(Failed)
     }

@@ -8,6 +8,7 @@ use std::io::{self, Write};
 #[derive(Drop)]
 pub struct Stdout<W: Write> {
     writer: W,
+    cause: Option<io::Error>,
     last: u128,
     faults: u64,
 }
@@ -24,9 +25,15 @@ impl<W: Write> Stdout<W> {
     {
         Stdout {
             writer,
+            cause: None,
             last: 0,
             faults: 0,
         }
+    }
+
+    /// What the system said of the first call that failed.
+    pub fn cause(&self) -> Option<io::Error> {
+        self.cause
     }
 }
 
@@ -46,10 +53,13 @@ impl<W: Write> Sink for Stdout<W> {
     fn put(&mut self, clock: &mut Clock, bytes: &[u8]) -> Result<(), Failed> {
         clock.tick();
         self.last = self.last.max(clock.moment());
-        if put_all(&mut self.writer, bytes).is_ok() {
-            return Ok(());
+        match put_all(&mut self.writer, bytes) {
+            Ok(()) => Ok(()),
+            Err(cause) => {
+                self.cause = self.cause.or(Some(cause));
+                self.faults = self.faults.saturating_add(1);
+                Err(Failed)
+            }
         }
-        self.faults = self.faults.saturating_add(1);
-        Err(Failed)
     }
 }

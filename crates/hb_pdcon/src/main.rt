@@ -1,39 +1,20 @@
 //! The program: `run -b N` over the files of the current folder, from standard input to standard output.
 #![tactic(auto)]
 
-use hb_acts::{back_ends, status_word};
-use hb_adapt::{FileDisk, Stdin, Stdout};
+mod disks;
+mod telling;
+
+use disks::{are_open, discard, file_count, open_disks};
+use hb_acts::back_ends;
+use hb_adapt::{FileDisk, Stdin, Stdout, Streams};
 use hb_console::{Ended, console_run};
 use hb_edge::Clock;
 use hb_types::{NoMemory, Text};
 use std::alloc::Global;
-use std::fs::File;
 use std::process::ExitCode;
-use std::rt::{Env, Files};
+use std::rt::Env;
 use std::{env, io};
-
-/// The disks' files, in the order in which they are handed over. A system of N back ends has the first 3 + 2N.
-const FILES: [&str; 19] = [
-    "fes1.log",
-    "ds.log",
-    "ds.area",
-    "bes1.log",
-    "bes1.area",
-    "bes2.log",
-    "bes2.area",
-    "bes3.log",
-    "bes3.area",
-    "bes4.log",
-    "bes4.area",
-    "bes5.log",
-    "bes5.area",
-    "bes6.log",
-    "bes6.area",
-    "bes7.log",
-    "bes7.area",
-    "bes8.log",
-    "bes8.area",
-];
+use telling::{tell, tell_cause, tell_disks, tell_end};
 
 /// The words after the program's name. Where the system has none to give, there are none.
 fn words<R: Env + AllocGlobal>(rt: &R, alloc: Global) -> Result<Vec<Text>, NoMemory> {
@@ -46,49 +27,89 @@ fn words<R: Env + AllocGlobal>(rt: &R, alloc: Global) -> Result<Vec<Text>, NoMem
     Ok(words)
 }
 
-/// The disks of a command. Words that are none have no disks, so that a usage error makes no file.
-fn disks<R: Files<File = File>>(
-    rt: &R,
-    alloc: Global,
-    words: &[Text],
-) -> Result<Vec<FileDisk>, NoMemory> {
-    let mut disks = Vec::new(alloc);
-    let count = back_ends(words) as usize;
-    if count > 0 {
-        for name in FILES.iter().take(3 + 2 * count) {
-            let name = Text::new(name.as_bytes().to_vec(alloc)?);
-            disks.push(FileDisk::new(rt, &name))?;
-        }
+/// Tells of the disks at the end. Behind an opening that was refused, the files that it made go, unless something was written.
+fn close(rt: &HostRuntime, status: u8, disks: &[FileDisk]) {
+    tell_disks(rt, disks);
+    if status >= 5 && status <= 7 {
+        discard(rt, disks);
     }
-    Ok(disks)
 }
 
-/// Runs the command that the words name, and answers its status.
-fn run(rt: &HostRuntime, alloc: Global) -> Result<u8, NoMemory> {
-    let words = words(rt, alloc)?;
-    let disks = disks(rt, alloc, words.as_slice())?;
+/// Runs the command over its disks, and answers its status.
+fn run_over(rt: &HostRuntime, alloc: Global, words: &[Text], disks: Vec<FileDisk>) -> u8 {
     let mut source = Stdin::new(rt.stdin());
     let mut sink = Stdout::new(io::writer(rt));
     let mut clock = Clock::new();
-    let Ended { status, disks: _ } = console_run(
+    let Ended { status, disks } = console_run(
         alloc,
-        words.as_slice(),
+        words,
         &mut source,
         &mut sink,
         disks,
         &mut clock,
     );
-    Ok(status)
+    tell_end(rt, status, source.cause(), sink.cause());
+    close(rt, status, disks.as_slice());
+    status
+}
+
+/// Opens the files of a command and runs it, unless one of them can't be had.
+fn run_files(
+    rt: &HostRuntime,
+    alloc: Global,
+    words: &[Text],
+    back_ends: u8,
+) -> Result<u8, NoMemory> {
+    let disks = open_disks(rt, alloc, file_count(back_ends))?;
+    if are_open(disks.as_slice()) {
+        return Ok(run_over(rt, alloc, words, disks));
+    }
+    close(rt, 5, disks.as_slice());
+    Ok(5)
+}
+
+/// Runs a command whose standard streams are kept apart from its files. Without input or output it touches no file.
+fn run_command(
+    rt: &HostRuntime,
+    alloc: Global,
+    words: &[Text],
+    back_ends: u8,
+    streams: &Streams,
+) -> Result<u8, NoMemory> {
+    if !streams.has_input() {
+        tell(rt, 3, "standard input is closed");
+        return Ok(3);
+    }
+    if !streams.has_output() {
+        tell(rt, 4, "standard output is closed");
+        return Ok(4);
+    }
+    run_files(rt, alloc, words, back_ends)
+}
+
+/// Runs the command that the words name, and answers its status. Words that are none have no disks, so that a usage error
+/// touches no file.
+fn run(rt: &HostRuntime, alloc: Global) -> Result<u8, NoMemory> {
+    let words = words(rt, alloc)?;
+    let count = back_ends(words.as_slice());
+    if count == 0 {
+        return Ok(run_over(rt, alloc, words.as_slice(), Vec::new(alloc)));
+    }
+    match Streams::keep(rt) {
+        Ok(streams) => run_command(rt, alloc, words.as_slice(), count, &streams),
+        Err(cause) => {
+            tell_cause(rt, 5, ".", cause);
+            Ok(5)
+        }
+    }
 }
 
 fn main(rt: HostRuntime) -> ExitCode {
-    let status = match run(&rt, rt.alloc()) {
-        Ok(status) => status,
-        Err(NoMemory) => 7,
-    };
-    if status != 0 {
-        let word = status_word(status);
-        let _ = eprintln!(rt; "hb_pdcon: {word}");
+    match run(&rt, rt.alloc()) {
+        Ok(status) => ExitCode::from(status),
+        Err(NoMemory) => {
+            tell(&rt, 7, "");
+            ExitCode::from(7)
+        }
     }
-    ExitCode::from(status)
 }
