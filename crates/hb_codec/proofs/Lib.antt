@@ -14,3 +14,4 @@ mod RecordGrammar
 mod PrepareGrammar
 mod Joined
 mod NumberAt
+mod Vectors

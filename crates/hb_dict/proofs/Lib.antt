@@ -2,3 +2,4 @@ pub mod ColumnSteps
 pub mod TableSteps
 pub mod Tells
 pub mod ValuesBack
+mod Vectors

@@ -4,3 +4,4 @@ pub mod Numbers
 pub mod Among
 pub mod RowSizes
 pub mod Ranked
+mod Vectors
