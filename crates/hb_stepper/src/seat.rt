@@ -9,12 +9,21 @@ use hb_node::Nodes;
 use hb_session::{Progress, Session};
 
 /// A session, with what was given to it and isn't answered yet.
-#[derive(Drop)]
 pub struct Seat {
     pub session: Session,
     pub work: Option<Work>,
     /// It moves by STEP alone.
     pub held: bool,
+}
+
+impl Drop for Seat {
+    fn drop(self) {
+        let Seat {
+            session: _,
+            work: _,
+            held: _,
+        } = self;
+    }
 }
 
 impl Seat {

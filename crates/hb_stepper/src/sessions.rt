@@ -14,7 +14,6 @@ use hb_types::{NoMemory, Text};
 use std::alloc::Global;
 
 /// The sessions by their names, who of them waits, and the lines so far.
-#[derive(Drop)]
 pub struct Sessions {
     pub(crate) alloc: Global,
     pub(crate) back_ends: BackEnds,
@@ -22,6 +21,19 @@ pub struct Sessions {
     pub(crate) seats: Vec<Seat>,
     pub(crate) waiters: Vec<usize>,
     pub(crate) lines: Vec<Line>,
+}
+
+impl Drop for Sessions {
+    fn drop(self) {
+        let Sessions {
+            alloc: _,
+            back_ends: _,
+            names: _,
+            seats: _,
+            waiters: _,
+            lines: _,
+        } = self;
+    }
 }
 
 impl Sessions {
