@@ -1,6 +1,6 @@
 -- Worlds that the premises of the law shut out, each with the clause that does it.
 use Rattle.std.proofs.Common.{◌≡◌, ◌⊎◌, ℕ, ℤ, true, false, List, [], ◌∷◌, ◌++◌, Option, Some, None, refl, subst, sym, ap, arith, inl, inr}
-use Rattle.std.specs.Prelude.{IsTrue, not, pos, ◌||◌}
+use Rattle.std.specs.Prelude.{IsTrue, Ok, codes, not, pos, ◌||◌, ⊤}
 use Rattle.std.proofs.lemmas.Bool.{false≢true}
 use Rattle.hb_types.specs.declared.answer.Answer.TheVariants as answer
 use Rattle.hb_types.specs.declared.names.Number.{Number}
@@ -13,13 +13,24 @@ use Rattle.hb_types.specs.declared.trail.TrailEntry.{TrailEntry}
 use Rattle.hb_types.specs.declared.value.Value.TheVariants.{Int}
 use Rattle.hb_types.specs.Lists.{Each}
 use Rattle.hb_types.proofs.SamePlace.{int_eq-refl}
+use Rattle.hb_model.specs.declared.line.Line.{Line}
+use Rattle.hb_model.specs.declared.line.Work.TheVariants as work
+use Rattle.hb_model.specs.declared.script.Item.TheVariants as script
 use Rattle.hb_model.specs.declared.reply.Reply.{Reply}
 use Rattle.hb_model.specs.declared.reply.Reply.TheVariants as reply
 use Rattle.hb_model.specs.declared.statement.Statement.TheVariants as statement
 use Rattle.hb_model.specs.Answers.{call}
 use Rattle.hb_model.specs.Families.{Family}
 use Rattle.hb_model.specs.Items.{Item, sql, tending}
+use Rattle.hb_disks.specs.Disks.{written}
+use Rattle.hb_disks.specs.Images.{Images}
+use Rattle.hb_disks.specs.Logless.{empty_images, empty_logs}
 use Rattle.hb_law.specs.Answering.{IsOfSystem}
+use Rattle.hb_law.specs.Composition.{World}
+use Rattle.hb_law.specs.Moments.{IsWorldAt}
+use Rattle.hb_law.specs.OwnAnswers.{IsOwnAnswer, Names, ScriptLine, given_by}
+use Rattle.hb_law.specs.Standing.{Standing, after_line, after_lines, at_start}
+use Rattle.hb_law.specs.Transcript.{AreOthers, IsInProgress, IsPart, IsTold}
 use Rattle.hb_law.specs.Histories.{Event, calls, shows}
 use Rattle.hb_law.specs.InTime.{InItsOrder}
 use Rattle.hb_law.specs.RunAlone.{MovesRows}
@@ -137,3 +148,80 @@ line_before_its_call timely = absurd (cc (timely.own 1 (ends ∷ []) refl))
 
 pub one_is_two : (table group old new : ℕ) (f g : Family) (k : ℤ) → MovesRows table group old new f g (k ∷ k ∷ []) → ⊥
 one_is_two table group old new f g k moves = false≢true (subst (λ b. IsTrue (not ((b || false) || (false || false)))) (int_eq-refl k) moves.apart)
+
+-- ---- the one answer to a line twice
+
+abbrev names : Names
+names = codes "s1" ∷ []
+
+abbrev gives_commit : ScriptLine
+gives_commit = Ok (script.Give (codes "s1") (work.Sql statement.Commit) false)
+
+abbrev none_open : Line
+none_open = record { session = Some 0; work = None; reply = reply.NoTransaction }
+
+abbrev IsOther : Standing → Line → Type 0
+IsOther s l = IsInProgress s l ⊎ ((l.session ≡ None) × IsTold s l.reply)
+
+no_session : ◌≡◌ {A = Option ℕ} (Some 0) None → ⊥
+no_session e = cc
+
+abbrev OtherBehind : List Line → Type 0
+OtherBehind [] = ⊤
+OtherBehind (l ∷ ls) = AreOthers (after_line (given_by names at_start gives_commit) l) ls
+
+abbrev OtherBefore : List Line → Type 0
+OtherBefore [] = ⊤
+OtherBefore (l ∷ ls) = IsOther at_start l
+
+twice : (front : List Line) (own : Line) (back : List Line) → none_open ∷ none_open ∷ [] ≡ front ++ own ∷ back → AreOthers at_start front
+    → AreOthers (after_lines (given_by names at_start gives_commit) (front ++ own ∷ [])) back → ⊥
+twice [] own back e before behind = neither false≢true (λ h. no_session h.0) (subst OtherBehind (sym e) behind).0
+twice (x ∷ xs) own back e before behind = neither false≢true (λ h. no_session h.0) (subst OtherBefore (sym e) before.0)
+
+pub answered_twice : IsPart names 1 gives_commit at_start (none_open ∷ none_open ∷ []) → ⊥
+answered_twice part = twice part.answer.front part.answer.own part.answer.back part.answer.parts part.answer.before part.answer.behind
+
+-- ---- the answer of another node, and of another kind
+
+abbrev stops : ScriptLine
+stops = Ok (script.Stop (codes "bes1"))
+
+abbrev synced : Line
+synced = record { session = None; work = None; reply = reply.Synced (record { 0 = 1 }) }
+
+abbrev up : Line
+up = record { session = None; work = None; reply = reply.Up (record { 0 = 3 }) }
+
+abbrev OwnFirst : List Line → Type 0
+OwnFirst [] = ⊤
+OwnFirst (l ∷ ls) = IsOwnAnswer [] false 1 stops l
+
+abbrev OtherFirst : List Line → Type 0
+OtherFirst [] = ⊤
+OtherFirst (l ∷ ls) = IsOther at_start l
+
+not_of_bes1 : (front : List Line) (own : Line) (back : List Line) → synced ∷ up ∷ [] ≡ front ++ own ∷ back → IsOwnAnswer [] false 1 stops own → AreOthers at_start front → ⊥
+not_of_bes1 [] own back e is_own before = neither nobody false≢true (subst OwnFirst (sym e) is_own).1
+not_of_bes1 (x ∷ xs) own back e is_own before = neither nobody (λ h. h.1) (subst OtherFirst (sym e) before.0)
+
+pub answered_by_others : IsPart [] 1 stops at_start (synced ∷ up ∷ []) → ⊥
+answered_by_others part = not_of_bes1 part.answer.front part.answer.own part.answer.back part.answer.parts part.answer.is_own part.answer.before
+
+-- ---- a moment at which COMMITTED is shown and the disks are empty
+
+abbrev unkept : World
+unkept =
+    record {
+      base_images = empty_images;
+      base = empty_logs;
+      images = empty_images;
+      logs = empty_logs;
+      trails = [] ∷ [] ∷ [] ∷ [];
+      lists = [] ∷ (sneaks committed ∷ []) ∷ [];
+      txns = [];
+      lines = record { caller = 1; place = 1; reply = committed } ∷ [];
+    }
+
+pub shown_and_not_kept : (w : World) (cut : List Event) (n : ℕ) (images : Images) → IsWorldAt written w unkept cut n images → ⊥
+shown_and_not_kept w cut n images now = number_of_nothing now.txns
