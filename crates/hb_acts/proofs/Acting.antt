@@ -58,11 +58,11 @@ module _ (number : ℕ) (said : Said) (old new : Running) (own : Own) (front : L
   does_line = record { own = own; front = front; done = done; prints = prints; text_is = refl }
 
   -- its sessions' lines were put in part
-  pub halted_front : (now : Option (List ℕ)) → PutsFront held now front → Halted old (does number said ∷ []) held now
+  pub halted_front : (now : Option (List ℕ)) → PutsFront held now front → Halted old (does number said ∷ []) held new now
   halted_front now puts = halted_act old new (does number said) whole held now does_line (puts_before held now front (own_text new.names number own) puts)
 
   -- its own text was put in part
-  pub halted_own : (mid now : Option (List ℕ)) → mid ≡ with_end front held → PutsFront mid now (own_text new.names number own) → Halted old (does number said ∷ []) held now
+  pub halted_own : (mid now : Option (List ℕ)) → mid ≡ with_end front held → PutsFront mid now (own_text new.names number own) → Halted old (does number said ∷ []) held new now
   halted_own mid now all puts = halted_act old new (does number said) whole held now does_line (puts_behind held mid now front (own_text new.names number own) all puts)
 
   pub reached_line : (mid now : Option (List ℕ)) → mid ≡ with_end front held → now ≡ with_end (own_text new.names number own) mid → Reached old (does number said ∷ []) held new now

@@ -1,5 +1,5 @@
 -- Chains of acts, one behind another.
-use Rattle.std.proofs.Common.{◌≡◌, ◌+◌, ℕ, List, [], ◌∷◌, ◌++◌, length, drop, refl, sym, ◌∙◌, ap, subst, append_assoc, arith}
+use Rattle.std.proofs.Common.{◌≡◌, ◌⊎◌, inl, inr, ◌+◌, ℕ, List, [], ◌∷◌, ◌++◌, length, drop, refl, sym, ◌∙◌, ap, subst, append_assoc, arith}
 use Rattle.std.specs.List.{flat_map}
 use Rattle.std.specs.declared.option.Option.{Option}
 use Rattle.std.proofs.lemmas.List.{append-nil}
@@ -9,7 +9,7 @@ use Rattle.hb_lines.specs.declared.said.Said.{Said}
 use Rattle.hb_print.specs.Texts.{text_of}
 use Rattle.hb_stepper.specs.Adding.{Adds}
 use Rattle.hb_stepper.specs.Running.{Running}
-use Rattle.hb_acts.specs.Acts.{Act, does, resumes, closes, ends, Acts, Chain, no_act, one_more, Prints, Reached, Halted}
+use Rattle.hb_acts.specs.Acts.{Act, does, resumes, closes, ends, Acts, Chain, no_act, one_more, Prints, Reached, Halted, IsWithinAct}
 use Rattle.hb_acts.specs.Putting.{IsFront, PutsFront}
 use Rattle.hb_acts.specs.Runs.{line_acts, script_acts}
 use Rattle.hb_acts.proofs.PutTexts.{all_behind, puts_all, puts_before, puts_behind, puts_nothing}
@@ -36,11 +36,13 @@ reached_none from held now same = record { text = []; chain = no_act; gained = s
 pub reached_act : (from to : Running) (act : Act) (text : List ℕ) (held now : Option (List ℕ)) → Acts act from text to → now ≡ with_end text held → Reached from (act ∷ []) held to now
 reached_act from to act text held now acts all = record { text = text; chain = one_more [] [] text from to act no_act acts; gained = all }
 
-pub halted_none : (from : Running) (acts : List Act) (held now : Option (List ℕ)) → now ≡ held → Halted from acts held now
-halted_none from acts held now same = record { done = []; first = (acts, refl); to = from; text = []; chain = no_act; puts = puts_nothing held now [] same }
+-- nothing was put, within the first act
+pub halted_none : (from end : Running) (act : Act) (more : List Act) (held now : Option (List ℕ)) → now ≡ held → IsWithinAct from end → Halted from (act ∷ more) held end now
+halted_none from end act more held now same within =
+    record { done = []; first = (act ∷ more, refl); to = from; text = []; chain = no_act; puts = puts_nothing held now [] same; stands = inr (act, (more, refl), within) }
 
-pub halted_act : (from to : Running) (act : Act) (text : List ℕ) (held now : Option (List ℕ)) → Acts act from text to → PutsFront held now text → Halted from (act ∷ []) held now
-halted_act from to act text held now acts puts = record { done = act ∷ []; first = ([], refl); to = to; text = text; chain = one_more [] [] text from to act no_act acts; puts = puts }
+pub halted_act : (from to : Running) (act : Act) (text : List ℕ) (held now : Option (List ℕ)) → Acts act from text to → PutsFront held now text → Halted from (act ∷ []) held to now
+halted_act from to act text held now acts puts = record { done = act ∷ []; first = ([], refl); to = to; text = text; chain = one_more [] [] text from to act no_act acts; puts = puts; stands = inl refl }
 
 pub reached_then : (from mid to : Running) (first more : List Act) (held now later : Option (List ℕ)) → Reached from first held mid now → Reached mid more now to later → Reached from (first ++ more) held to later
 reached_then from mid to first more held now later a b = record {
@@ -49,22 +51,35 @@ reached_then from mid to first more held now later a b = record {
   gained = all_behind held now later a.text b.text a.gained b.gained;
 }
 
-pub halted_then : (from mid : Running) (first more : List Act) (held now later : Option (List ℕ)) → Reached from first held mid now → Halted mid more now later → Halted from (first ++ more) held later
-halted_then from mid first more held now later a b = record {
+stands_behind : (first done acts : List Act) (to end : Running) → (end ≡ to) ⊎ ((act : Act) × IsFront (done ++ act ∷ []) acts × IsWithinAct to end)
+    → (end ≡ to) ⊎ ((act : Act) × IsFront ((first ++ done) ++ act ∷ []) (first ++ acts) × IsWithinAct to end)
+stands_behind first done acts to end (inl same) = inl same
+stands_behind first done acts to end (inr (act, front, within)) =
+    inr (act, subst (λ (l : List Act). IsFront l (first ++ acts)) (sym (append_assoc first done (act ∷ []))) (front_behind first (done ++ act ∷ []) acts front), within)
+
+stands_before : (done acts more : List Act) (to end : Running) → (end ≡ to) ⊎ ((act : Act) × IsFront (done ++ act ∷ []) acts × IsWithinAct to end)
+    → (end ≡ to) ⊎ ((act : Act) × IsFront (done ++ act ∷ []) (acts ++ more) × IsWithinAct to end)
+stands_before done acts more to end (inl same) = inl same
+stands_before done acts more to end (inr (act, front, within)) = inr (act, front_before (done ++ act ∷ []) acts more front, within)
+
+pub halted_then : (from mid end : Running) (first more : List Act) (held now later : Option (List ℕ)) → Reached from first held mid now → Halted mid more now end later → Halted from (first ++ more) held end later
+halted_then from mid end first more held now later a b = record {
   done = first ++ b.done;
   first = front_behind first b.done more b.first;
   to = b.to;
   text = a.text ++ b.text;
   chain = chain_then from mid first a.text a.chain b.done b.text b.to b.chain;
   puts = puts_behind held now later a.text b.text a.gained b.puts;
+  stands = stands_behind first b.done more b.to end b.stands;
 }
 
-pub halted_before : (from : Running) (first more : List Act) (held now : Option (List ℕ)) → Halted from first held now → Halted from (first ++ more) held now
-halted_before from first more held now a = record { done = a.done; first = front_before a.done first more a.first; to = a.to; text = a.text; chain = a.chain; puts = a.puts }
+pub halted_before : (from end : Running) (first more : List Act) (held now : Option (List ℕ)) → Halted from first held end now → Halted from (first ++ more) held end now
+halted_before from end first more held now a =
+    record { done = a.done; first = front_before a.done first more a.first; to = a.to; text = a.text; chain = a.chain; puts = a.puts; stands = stands_before a.done first more a.to end a.stands }
 
 -- where a run came to, it also halted
-pub halted_reached : (from to : Running) (acts : List Act) (held now : Option (List ℕ)) → Reached from acts held to now → Halted from acts held now
-halted_reached from to acts held now a = record { done = acts; first = ([], sym (append-nil acts)); to = to; text = a.text; chain = a.chain; puts = puts_all held now a.text a.gained }
+pub halted_reached : (from to : Running) (acts : List Act) (held now : Option (List ℕ)) → Reached from acts held to now → Halted from acts held to now
+halted_reached from to acts held now a = record { done = acts; first = ([], sym (append-nil acts)); to = to; text = a.text; chain = a.chain; puts = puts_all held now a.text a.gained; stands = inl refl }
 
 -- ---- the acts of lines
 

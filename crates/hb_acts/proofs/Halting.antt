@@ -53,10 +53,10 @@ cause_last input first then was now (Ok x) by rose = tt
 cause_last input first then was now (Err stop) by rose = by_sink input first then stop was now by.cause rose
 
 -- a run that stopped
-pub runs_stopped : (origin : Running) (before after : Outside) (stop : Stop) → GoesOn before after → MayStop before.input before.faults after.faults stop → IfSome before.input (StopsAt origin before after stop)
-    → (e : Stop) → e ≡ stop → (result : Result (Unit {0}) Stop) → result ≡ Err e → Runs origin before after result
-runs_stopped origin before after stop goes_on cause halts e same result is =
-    subst (λ (r : Result (Unit {0}) Stop). Runs origin before after r) (sym (is ∙ ap (λ (s : Stop). Err s) same)) (record { goes_on = goes_on; cause = cause; done = tt; stopped = halts })
+pub runs_stopped : (origin end : Running) (before after : Outside) (stop : Stop) → GoesOn before after → MayStop before.input before.faults after.faults stop → IfSome before.input (StopsAt origin end before after stop)
+    → (e : Stop) → e ≡ stop → (result : Result (Unit {0}) Stop) → result ≡ Err e → Runs origin end before after result
+runs_stopped origin end before after stop goes_on cause halts e same result is =
+    subst (λ (r : Result (Unit {0}) Stop). Runs origin end before after r) (sym (is ∙ ap (λ (s : Stop). Err s) same)) (record { goes_on = goes_on; cause = cause; done = tt; stopped = halts })
 
 -- ---- a sink that told its bytes goes on to tell them
 
@@ -67,9 +67,9 @@ told_on (Some held) new text gained = ap (λ (o : Option (List ℕ)). is_some o)
 pub output_all : (from to : Running) (acts : List Act) (held now : Option (List ℕ)) → Reached from acts held to now → is_some now ≡ is_some held
 output_all from to acts held now reached = told_on held now reached.text reached.gained
 
-pub output_part : (from : Running) (acts : List Act) (held now : Option (List ℕ)) → Halted from acts held now → is_some now ≡ is_some held
-output_part from acts held now halted = told_on held now halted.puts.shown halted.puts.gained
+pub output_part : (from end : Running) (acts : List Act) (held now : Option (List ℕ)) → Halted from acts held end now → is_some now ≡ is_some held
+output_part from end acts held now halted = told_on held now halted.puts.shown halted.puts.gained
 
-pub output_last : (from to : Running) (acts : List Act) (held now : Option (List ℕ)) (result : Result (Unit {0}) Stop) → OnOk result (Reached from acts held to now) → OnErr result (Halted from acts held now) → is_some now ≡ is_some held
+pub output_last : (from to : Running) (acts : List Act) (held now : Option (List ℕ)) (result : Result (Unit {0}) Stop) → OnOk result (Reached from acts held to now) → OnErr result (Halted from acts held to now) → is_some now ≡ is_some held
 output_last from to acts held now (Ok x) reached halted = output_all from to acts held now reached
-output_last from to acts held now (Err stop) reached halted = output_part from acts held now halted
+output_last from to acts held now (Err stop) reached halted = output_part from to acts held now halted

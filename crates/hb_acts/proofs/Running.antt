@@ -53,26 +53,26 @@ not_between stop within (inr is) = absurd (within.1 is)
 
 module _ (origin : Running) (before after : Outside) where
   -- it stopped between two lines
-  pub stops_between : (rest : Option (List ℕ)) (number : ℕ) (now : Running) (stop : Stop) → OnItsWay origin before.input rest before.output number now after.output → (stop ≡ Line → IfSome rest IsTooLong) → IfSome before.input (StopsAt origin before after stop)
-  stops_between rest number now stop way long = for_said before.input rest way.saids (StopsAt origin before after stop) way.said (λ input left is to. record {
+  pub stops_between : (rest : Option (List ℕ)) (number : ℕ) (now : Running) (stop : Stop) → OnItsWay origin before.input rest before.output number now after.output → (stop ≡ Line → IfSome rest IsTooLong) → IfSome before.input (StopsAt origin now before after stop)
+  stops_between rest number now stop way long = for_said before.input rest way.saids (StopsAt origin now before after stop) way.said (λ input left is to. record {
     read = to.lines;
     others = lines_of left;
     split = to.split;
     saids = way.saids;
     says = to.says;
     halted = inl (halted_reached origin now (line_acts 1 way.saids) before.output after.output way.reached);
-    whole = λ between. (now, way.reached);
+    whole = λ between. way.reached;
     long = λ line. let P : Option (List ℕ) → Type 0 = λ o. IfSome o IsTooLong in begins_long left (subst P is (long line));
   })
 
   -- it stopped while a line was done
-  pub stops_within : (rest more : Option (List ℕ)) (number n : ℕ) (now : Running) (output : Option (List ℕ)) (said : Said) (stop : Stop) → OnItsWay origin before.input rest before.output number now output → NextLine (Some said) rest more
-      → n ≡ number + 1 → Halted now (does n said ∷ resumes ∷ []) output after.output → IsWithin stop → IfSome before.input (StopsAt origin before after stop)
-  stops_within rest more number n now output said stop way next is halted within =
+  pub stops_within : (rest more : Option (List ℕ)) (number n : ℕ) (now end : Running) (output : Option (List ℕ)) (said : Said) (stop : Stop) → OnItsWay origin before.input rest before.output number now output → NextLine (Some said) rest more
+      → n ≡ number + 1 → Halted now (does n said ∷ resumes ∷ []) output end after.output → IsWithin stop → IfSome before.input (StopsAt origin end before after stop)
+  stops_within rest more number n now end output said stop way next is halted within =
       let saids : List Said = way.saids ++ said ∷ [] in
-      let halts : Halted origin (line_acts 1 saids) before.output after.output =
-      subst (λ (acts : List Act). Halted origin acts before.output after.output) (acts_on way.saids said number n way.count is) (halted_then origin now (line_acts 1 way.saids) (does n said ∷ resumes ∷ []) before.output output after.output way.reached halted) in
-      for_said before.input more saids (StopsAt origin before after stop) (said_on before.input rest more way.saids said way.said next) (λ input left is_left to. record {
+      let halts : Halted origin (line_acts 1 saids) before.output end after.output =
+      subst (λ (acts : List Act). Halted origin acts before.output end after.output) (acts_on way.saids said number n way.count is) (halted_then origin now end (line_acts 1 way.saids) (does n said ∷ resumes ∷ []) before.output output after.output way.reached halted) in
+      for_said before.input more saids (StopsAt origin end before after stop) (said_on before.input rest more way.saids said way.said next) (λ input left is_left to. record {
         read = to.lines;
         others = lines_of left;
         split = to.split;
@@ -100,20 +100,19 @@ module _ (origin : Running) (before after : Outside) where
 
   module _ (rest : Option (List ℕ)) (reader : List ℕ) (number : ℕ) (now : Running) (output : Option (List ℕ)) (way : OnItsWay origin before.input rest before.output number now output)
       (next : NextLine None rest (with_front reader after.input)) where
-    finishes : (end : Running) → Reached now (closes ∷ ends number ∷ []) output end after.output → IfSome before.input (Finishes origin before after)
-    finishes end reached = for_said before.input rest way.saids (Finishes origin before after) way.said (λ input left is to.
+    finishes : (end : Running) → Reached now (closes ∷ ends number ∷ []) output end after.output → IfSome before.input (Finishes origin end before after)
+    finishes end reached = for_said before.input rest way.saids (Finishes origin end before after) way.said (λ input left is to.
         let done = nothing_left rest (with_front reader after.input) left next is in
         record {
           saids = way.saids;
           says = said_all input way.saids (subst (λ (l : List ℕ). SaidTo input l way.saids) done.0 to);
-          end = end;
           reached = subst (λ (acts : List Act). Reached origin acts before.output end after.output) (acts_end way.saids number way.count)
               (reached_then origin now end (line_acts 1 way.saids) (closes ∷ ends number ∷ []) before.output output after.output way.reached reached);
           ended = ended_source reader after.input done.1;
         })
 
-    stops_ending : (stop : Stop) → Halted now (closes ∷ ends number ∷ []) output after.output → IsWithin stop → IfSome before.input (StopsAt origin before after stop)
-    stops_ending stop halted within = for_said before.input rest way.saids (StopsAt origin before after stop) way.said (λ input left is to.
+    stops_ending : (end : Running) (stop : Stop) → Halted now (closes ∷ ends number ∷ []) output end after.output → IsWithin stop → IfSome before.input (StopsAt origin end before after stop)
+    stops_ending end stop halted within = for_said before.input rest way.saids (StopsAt origin end before after stop) way.said (λ input left is to.
         let done = nothing_left rest (with_front reader after.input) left next is in
         record {
           read = to.lines;
@@ -123,17 +122,17 @@ module _ (origin : Running) (before after : Outside) where
           says = to.says;
           halted = inr (
             ap lines_of done.0 ∙ no_lines,
-            subst (λ (acts : List Act). Halted origin acts before.output after.output) (acts_end way.saids number way.count)
-                (halted_then origin now (line_acts 1 way.saids) (closes ∷ ends number ∷ []) before.output output after.output way.reached halted),
+            subst (λ (acts : List Act). Halted origin acts before.output end after.output) (acts_end way.saids number way.count)
+                (halted_then origin now end (line_acts 1 way.saids) (closes ∷ ends number ∷ []) before.output output after.output way.reached halted),
           );
           whole = λ between. not_between stop within between;
           long = λ line. absurd (within.1 line);
         })
 
-    pub done_last : (end : Running) (result : Result (Unit {0}) Stop) → OnOk result (Reached now (closes ∷ ends number ∷ []) output end after.output) → IfOk result (λ _. IfSome before.input (Finishes origin before after))
+    pub done_last : (end : Running) (result : Result (Unit {0}) Stop) → OnOk result (Reached now (closes ∷ ends number ∷ []) output end after.output) → IfOk result (λ _. IfSome before.input (Finishes origin end before after))
     done_last end (Ok x) reached = finishes end reached
     done_last end (Err stop) reached = tt
 
-    pub stopped_last : (result : Result (Unit {0}) Stop) → OnErr result (Halted now (closes ∷ ends number ∷ []) output after.output) → IfErr result IsWithin → IfErr result (λ stop. IfSome before.input (StopsAt origin before after stop))
-    stopped_last (Ok x) halted within = tt
-    stopped_last (Err stop) halted within = stops_ending stop halted within
+    pub stopped_last : (end : Running) (result : Result (Unit {0}) Stop) → OnErr result (Halted now (closes ∷ ends number ∷ []) output end after.output) → IfErr result IsWithin → IfErr result (λ stop. IfSome before.input (StopsAt origin end before after stop))
+    stopped_last end (Ok x) halted within = tt
+    stopped_last end (Err stop) halted within = stops_ending end stop halted within

@@ -1,5 +1,5 @@
 -- What a script does to its sessions, act by act, and what is printed for each act.
-use Rattle.std.specs.Prelude.{◌≡◌, ℕ, List, [], ◌∷◌, ◌++◌, Option, None, codes}
+use Rattle.std.specs.Prelude.{◌≡◌, ◌⊎◌, ℕ, List, [], ◌∷◌, ◌++◌, Option, None, codes}
 use Rattle.std.specs.Fmt.{decimal}
 use Rattle.std.specs.List.{flat_map}
 use Rattle.hb_model.specs.declared.line.Line.{Line}
@@ -10,6 +10,7 @@ use Rattle.hb_lines.specs.declared.said.Said.{Said}
 use Rattle.hb_serve.specs.declared.own.Own.{Own}
 use Rattle.hb_serve.specs.declared.own.Own.TheVariants as own
 use Rattle.hb_serve.specs.Doing.{Does}
+use Rattle.hb_stepper.specs.Adding.{Adds}
 use Rattle.hb_stepper.specs.Closing.{Closed}
 use Rattle.hb_stepper.specs.Running.{Running}
 use Rattle.hb_stepper.specs.Steps.{Resumed}
@@ -74,11 +75,18 @@ pub record Reached (from : Running) (acts : List Act) (held : Option (List ℕ))
   pub chain : Chain from acts text to
   pub gained : now ≡ with_end text held
 
--- the first of these acts were done, and a front of their text was put
-pub record Halted (from : Running) (acts : List Act) (held now : Option (List ℕ)) : Type 0 where
+-- where memory was wanting within an act: names, lines and what each node was asked were only added to
+pub record IsWithinAct (before now : Running) : Type 0 where
+  pub names : Adds before.names now.names
+  pub lines : Adds before.lines now.lines
+  pub lists : (node : ℕ) → Adds (before.lists node) (now.lists node)
+
+-- The first of these acts were done, and a front of their text was put. All stands as these acts left it, or is within the next one.
+pub record Halted (from : Running) (acts : List Act) (held : Option (List ℕ)) (end : Running) (now : Option (List ℕ)) : Type 0 where
   pub done : List Act
   pub first : IsFront done acts
   pub to : Running
   pub text : List ℕ
   pub chain : Chain from done text to
   pub puts : PutsFront held now text
+  pub stands : (end ≡ to) ⊎ ((act : Act) × IsFront (done ++ act ∷ []) acts × IsWithinAct to end)

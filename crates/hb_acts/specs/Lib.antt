@@ -4,3 +4,4 @@ pub mod Outside
 pub mod Putting
 pub mod Acts
 pub mod Runs
+pub mod Leaving

@@ -18,11 +18,11 @@ line_acts number (said ∷ saids) = does number said ∷ resumes ∷ line_acts (
 abbrev pub script_acts : List Said → List Act
 script_acts saids = line_acts 1 saids ++ closes ∷ ends (length saids) ∷ []
 
--- a whole script: its lines say what was done, the sink gained the text of all its acts, and the source has nothing left
-pub record Finishes (origin : Running) (before after : Outside) (input : List ℕ) : Type 0 where
+-- a whole script from its origin to its end: its lines say what was done, the sink gained the text of all its acts, and the source has
+-- nothing left
+pub record Finishes (origin end : Running) (before after : Outside) (input : List ℕ) : Type 0 where
   pub saids : List Said
   pub says : SayAll (lines_of input) saids
-  pub end : Running
   pub reached : Reached origin (script_acts saids) before.output end after.output
   pub ended : after.input ≡ Some []
 
@@ -30,21 +30,21 @@ pub record Finishes (origin : Running) (before after : Outside) (input : List �
 abbrev pub BeginsLong : List (List ℕ) → Type 0
 BeginsLong lines = (line : List ℕ) × (others : List (List ℕ)) × (lines ≡ line ∷ others) × (most_bytes < length line)
 
--- A script that stopped: its first lines say what was done, up to some act of theirs, or of the script's end where there are no
--- other lines. The sink gained a front of the text; but all of it where the source failed or the next line is too long.
-pub record StopsAt (origin : Running) (before after : Outside) (stop : Stop) (input : List ℕ) : Type 0 where
+-- A script that stopped at an end: its first lines say what was done, up to some act of theirs, or of the script's end where there are
+-- no other lines. The sink gained a front of the text; but all of it where the source failed or the next line is too long.
+pub record StopsAt (origin end : Running) (before after : Outside) (stop : Stop) (input : List ℕ) : Type 0 where
   pub read : List (List ℕ)
   pub others : List (List ℕ)
   pub split : lines_of input ≡ read ++ others
   pub saids : List Said
   pub says : SayAll read saids
-  pub halted : Halted origin (line_acts 1 saids) before.output after.output ⊎ ((others ≡ []) × Halted origin (script_acts saids) before.output after.output)
-  pub whole : (stop ≡ Source) ⊎ (stop ≡ Line) → (end : Running) × Reached origin (line_acts 1 saids) before.output end after.output
+  pub halted : Halted origin (line_acts 1 saids) before.output end after.output ⊎ ((others ≡ []) × Halted origin (script_acts saids) before.output end after.output)
+  pub whole : (stop ≡ Source) ⊎ (stop ≡ Line) → Reached origin (line_acts 1 saids) before.output end after.output
   pub long : stop ≡ Line → BeginsLong others
 
--- a run of a script from where its sessions and the nodes stand
-pub record Runs (origin : Running) (before after : Outside) (result : Result (Unit {0}) Stop) : Type 0 where
+-- a run of a script, from where its sessions and the nodes stand to where they stand then
+pub record Runs (origin end : Running) (before after : Outside) (result : Result (Unit {0}) Stop) : Type 0 where
   pub goes_on : GoesOn before after
   pub cause : IfErr result (MayStop before.input before.faults after.faults)
-  pub done : IfOk result (λ _. IfSome before.input (Finishes origin before after))
-  pub stopped : IfErr result (λ stop. IfSome before.input (StopsAt origin before after stop))
+  pub done : IfOk result (λ _. IfSome before.input (Finishes origin end before after))
+  pub stopped : IfErr result (λ stop. IfSome before.input (StopsAt origin end before after stop))

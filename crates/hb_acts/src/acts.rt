@@ -36,8 +36,10 @@ fn do_said<N: Node, M: Node>(
     requires { IsPlainSaid said }
     ensures done { IfOk result (λ own. Does number said (running sessions.old (⟦<Reach<N, M> as Nodes>⟧.lists nodes.old)) own (running sessions.new (⟦<Reach<N, M> as Nodes>⟧.lists nodes.new))) }
     ensures adds { Adds sessions.old.lines.items sessions.new.lines.items }
+    ensures names { Adds sessions.old.names.items sessions.new.names.items }
     ensures goes { Onward (⟦<Reach<N, M> as Nodes>⟧.goes) nodes.old nodes.new }
     ensures clock { clock.old ≤ clock.new }
+    ensures behind { nodes.new.clock ≤ clock.new }
 {
     nodes.raise(*clock);
     let own = do_line(sessions, nodes, number, said);
@@ -53,8 +55,10 @@ fn resume<N: Node, M: Node>(
 ) -> Result<(), NoMemory>
     ensures done { OnOk result (Resumed (running sessions.old (⟦<Reach<N, M> as Nodes>⟧.lists nodes.old)) (running sessions.new (⟦<Reach<N, M> as Nodes>⟧.lists nodes.new))) }
     ensures adds { Adds sessions.old.lines.items sessions.new.lines.items }
+    ensures names { Adds sessions.old.names.items sessions.new.names.items }
     ensures goes { Onward (⟦<Reach<N, M> as Nodes>⟧.goes) nodes.old nodes.new }
     ensures clock { clock.old ≤ clock.new }
+    ensures behind { nodes.new.clock ≤ clock.new }
 {
     nodes.raise(*clock);
     let done = sessions.resume_waiting(nodes);
@@ -70,8 +74,10 @@ fn close<N: Node, M: Node>(
 ) -> Result<(), NoMemory>
     ensures done { OnOk result (Closed (running sessions.old (⟦<Reach<N, M> as Nodes>⟧.lists nodes.old)) (running sessions.new (⟦<Reach<N, M> as Nodes>⟧.lists nodes.new))) }
     ensures adds { Adds sessions.old.lines.items sessions.new.lines.items }
+    ensures names { Adds sessions.old.names.items sessions.new.names.items }
     ensures goes { Onward (⟦<Reach<N, M> as Nodes>⟧.goes) nodes.old nodes.new }
     ensures clock { clock.old ≤ clock.new }
+    ensures behind { nodes.new.clock ≤ clock.new }
 {
     nodes.raise(*clock);
     let done = sessions.close_all(nodes);
@@ -114,9 +120,10 @@ fn act_line<O: Sink, N: Node, M: Node>(
 ) -> Result<(), Stop>
     requires { IsPlainSaid said }
     ensures done { OnOk result (Reached (running sessions.old (⟦<Reach<N, M> as Nodes>⟧.lists nodes.old)) (does number said ∷ []) (O.held sink.old) (running sessions.new (⟦<Reach<N, M> as Nodes>⟧.lists nodes.new)) (O.held sink.new)) }
-    ensures part { OnErr result (Halted (running sessions.old (⟦<Reach<N, M> as Nodes>⟧.lists nodes.old)) (does number said ∷ []) (O.held sink.old) (O.held sink.new)) }
+    ensures part { OnErr result (Halted (running sessions.old (⟦<Reach<N, M> as Nodes>⟧.lists nodes.old)) (does number said ∷ []) (O.held sink.old) (running sessions.new (⟦<Reach<N, M> as Nodes>⟧.lists nodes.new)) (O.held sink.new)) }
     ensures goes { Onward (⟦<Reach<N, M> as Nodes>⟧.goes) nodes.old nodes.new }
     ensures clock { clock.old ≤ clock.new }
+    ensures behind { nodes.new.clock ≤ clock.new }
     ensures cause { StopsBy Stop.Sink (O.faults sink.old) (O.faults sink.new) result }
 {
     let place = sessions.transcript().len();
@@ -134,9 +141,10 @@ fn act_resume<O: Sink, N: Node, M: Node>(
     clock: &mut Clock,
 ) -> Result<(), Stop>
     ensures done { OnOk result (Reached (running sessions.old (⟦<Reach<N, M> as Nodes>⟧.lists nodes.old)) (resumes ∷ []) (O.held sink.old) (running sessions.new (⟦<Reach<N, M> as Nodes>⟧.lists nodes.new)) (O.held sink.new)) }
-    ensures part { OnErr result (Halted (running sessions.old (⟦<Reach<N, M> as Nodes>⟧.lists nodes.old)) (resumes ∷ []) (O.held sink.old) (O.held sink.new)) }
+    ensures part { OnErr result (Halted (running sessions.old (⟦<Reach<N, M> as Nodes>⟧.lists nodes.old)) (resumes ∷ []) (O.held sink.old) (running sessions.new (⟦<Reach<N, M> as Nodes>⟧.lists nodes.new)) (O.held sink.new)) }
     ensures goes { Onward (⟦<Reach<N, M> as Nodes>⟧.goes) nodes.old nodes.new }
     ensures clock { clock.old ≤ clock.new }
+    ensures behind { nodes.new.clock ≤ clock.new }
     ensures cause { StopsBy Stop.Sink (O.faults sink.old) (O.faults sink.new) result }
 {
     let place = sessions.transcript().len();
@@ -153,9 +161,10 @@ fn act_close<O: Sink, N: Node, M: Node>(
     clock: &mut Clock,
 ) -> Result<(), Stop>
     ensures done { OnOk result (Reached (running sessions.old (⟦<Reach<N, M> as Nodes>⟧.lists nodes.old)) (closes ∷ []) (O.held sink.old) (running sessions.new (⟦<Reach<N, M> as Nodes>⟧.lists nodes.new)) (O.held sink.new)) }
-    ensures part { OnErr result (Halted (running sessions.old (⟦<Reach<N, M> as Nodes>⟧.lists nodes.old)) (closes ∷ []) (O.held sink.old) (O.held sink.new)) }
+    ensures part { OnErr result (Halted (running sessions.old (⟦<Reach<N, M> as Nodes>⟧.lists nodes.old)) (closes ∷ []) (O.held sink.old) (running sessions.new (⟦<Reach<N, M> as Nodes>⟧.lists nodes.new)) (O.held sink.new)) }
     ensures goes { Onward (⟦<Reach<N, M> as Nodes>⟧.goes) nodes.old nodes.new }
     ensures clock { clock.old ≤ clock.new }
+    ensures behind { nodes.new.clock ≤ clock.new }
     ensures cause { StopsBy Stop.Sink (O.faults sink.old) (O.faults sink.new) result }
 {
     let place = sessions.transcript().len();
@@ -175,9 +184,10 @@ pub(crate) fn serve<O: Sink, N: Node, M: Node>(
 ) -> Result<(), Stop>
     requires { IsPlainSaid said }
     ensures done { OnOk result (Reached (running sessions.old (⟦<Reach<N, M> as Nodes>⟧.lists nodes.old)) (does number said ∷ resumes ∷ []) (O.held sink.old) (running sessions.new (⟦<Reach<N, M> as Nodes>⟧.lists nodes.new)) (O.held sink.new)) }
-    ensures part { OnErr result (Halted (running sessions.old (⟦<Reach<N, M> as Nodes>⟧.lists nodes.old)) (does number said ∷ resumes ∷ []) (O.held sink.old) (O.held sink.new)) }
+    ensures part { OnErr result (Halted (running sessions.old (⟦<Reach<N, M> as Nodes>⟧.lists nodes.old)) (does number said ∷ resumes ∷ []) (O.held sink.old) (running sessions.new (⟦<Reach<N, M> as Nodes>⟧.lists nodes.new)) (O.held sink.new)) }
     ensures goes { Onward (⟦<Reach<N, M> as Nodes>⟧.goes) nodes.old nodes.new }
     ensures clock { clock.old ≤ clock.new }
+    ensures behind { nodes.new.clock ≤ clock.new }
     ensures cause { StopsBy Stop.Sink (O.faults sink.old) (O.faults sink.new) result }
 {
     act_line(alloc, sessions, nodes, sink, clock, number, said)?;
@@ -194,9 +204,10 @@ pub(crate) fn finish<O: Sink, N: Node, M: Node>(
     count: u64,
 ) -> Result<(), Stop>
     ensures done { OnOk result (Reached (running sessions.old (⟦<Reach<N, M> as Nodes>⟧.lists nodes.old)) (closes ∷ ends count ∷ []) (O.held sink.old) (running sessions.new (⟦<Reach<N, M> as Nodes>⟧.lists nodes.new)) (O.held sink.new)) }
-    ensures part { OnErr result (Halted (running sessions.old (⟦<Reach<N, M> as Nodes>⟧.lists nodes.old)) (closes ∷ ends count ∷ []) (O.held sink.old) (O.held sink.new)) }
+    ensures part { OnErr result (Halted (running sessions.old (⟦<Reach<N, M> as Nodes>⟧.lists nodes.old)) (closes ∷ ends count ∷ []) (O.held sink.old) (running sessions.new (⟦<Reach<N, M> as Nodes>⟧.lists nodes.new)) (O.held sink.new)) }
     ensures goes { Onward (⟦<Reach<N, M> as Nodes>⟧.goes) nodes.old nodes.new }
     ensures clock { clock.old ≤ clock.new }
+    ensures behind { nodes.new.clock ≤ clock.new }
     ensures cause { StopsBy Stop.Sink (O.faults sink.old) (O.faults sink.new) result }
 {
     act_close(alloc, sessions, nodes, sink, clock)?;

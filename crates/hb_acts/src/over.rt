@@ -1,10 +1,12 @@
 // A script over the nodes of a system, from their start to its end.
 ghost use Rattle.std.specs.Prelude.{◌≡◌, ◌≤◌, [], length};
+ghost use Rattle.hb_acts.specs.Leaving.{NodesLeft};
 ghost use Rattle.hb_acts.specs.Outside.{seen};
 ghost use Rattle.hb_acts.specs.Runs.{Runs};
 ghost use Rattle.hb_node.specs.Lists.{Onward};
 ghost use Rattle.hb_reach.specs.Names.{AreNumbered};
-ghost use Rattle.hb_reach.specs.Told.{mgr};
+ghost use Rattle.hb_reach.specs.Told.{meanings, mgr};
+ghost use Rattle.hb_stepper.specs.Running.{Running};
 
 use crate::Stop;
 use crate::run::run_script;
@@ -23,11 +25,12 @@ fn run_sessions<S: Source, O: Sink, N: Node, M: Node>(
     sink: &mut O,
     clock: &mut Clock,
 ) -> Result<(), Stop>
-    ensures runs { Runs (record { names = []; seats = []; waiters = []; lines = []; lists = ⟦<Reach<N, M> as Nodes>⟧.lists reach.old })
+    ensures runs { (end : Running) × (end.lists ≡ ⟦<Reach<N, M> as Nodes>⟧.lists reach.new) × Runs (record { names = []; seats = []; waiters = []; lines = []; lists = ⟦<Reach<N, M> as Nodes>⟧.lists reach.old }) end
         (seen S.left S.faults O.held O.faults source.old sink.old)
         (seen S.left S.faults O.held O.faults source.new sink.new)
         result }
     ensures clock { clock.old ≤ clock.new }
+    ensures behind { reach.old.clock ≤ clock.old → reach.new.clock ≤ clock.new }
     ensures goes { Onward ⟦<Reach<N, M> as Nodes>⟧.goes reach.old reach.new }
 {
     let mut sessions = Sessions::new(alloc, back_ends);
@@ -46,7 +49,10 @@ pub fn run_nodes<S: Source, O: Sink, N: Node, M: Node + Drop>(
 ) -> (Result<(), Stop>, Vec<N>)
     requires few { length nodes.items ≤ mgr }
     requires numbered { AreNumbered N.named nodes.items }
-    ensures runs { Runs (record { names = []; seats = []; waiters = []; lines = []; lists = ⟦<Reach<N, M> as Nodes>⟧.lists (record { nodes = nodes; manager = manager; clock = clock.old }) })
+    // The end is that of these nodes, each of which is lawful still.
+    ensures runs { (end : Running)
+        × NodesLeft (meanings N.named N.trail N.explains N.leaves N.last) (meanings M.named M.trail M.explains M.leaves M.last) clock.old clock.new nodes.items manager end.lists result.1.items
+        × Runs (record { names = []; seats = []; waiters = []; lines = []; lists = ⟦<Reach<N, M> as Nodes>⟧.lists (record { nodes = nodes; manager = manager; clock = clock.old }) }) end
         (seen S.left S.faults O.held O.faults source.old sink.old)
         (seen S.left S.faults O.held O.faults source.new sink.new)
         result.0 }

@@ -52,11 +52,12 @@ pub fn run_script<S: Source, O: Sink, N: Node, M: Node>(
     sink: &mut O,
     clock: &mut Clock,
 ) -> Result<(), Stop>
-    ensures runs { Runs (running sessions.old (⟦<Reach<N, M> as Nodes>⟧.lists nodes.old))
+    ensures runs { Runs (running sessions.old (⟦<Reach<N, M> as Nodes>⟧.lists nodes.old)) (running sessions.new (⟦<Reach<N, M> as Nodes>⟧.lists nodes.new))
         (seen S.left S.faults O.held O.faults source.old sink.old)
         (seen S.left S.faults O.held O.faults source.new sink.new)
         result }
     ensures clock { clock.old ≤ clock.new }
+    ensures behind { nodes.old.clock ≤ clock.old → nodes.new.clock ≤ clock.new }
     ensures goes { Onward ⟦<Reach<N, M> as Nodes>⟧.goes nodes.old nodes.new }
 {
     let mut reader = LineReader::new(alloc)?;

@@ -12,13 +12,14 @@ use Rattle.hb_print.specs.Texts.{text_of}
 use Rattle.hb_acts.specs.Acts.{Act, does, resumes, closes, ends, own_text, count_line, Reached, Halted}
 use Rattle.hb_acts.specs.Putting.{PutsFront}
 use Rattle.hb_acts.specs.declared.stop.Stop.TheVariants.{Memory, Sink}
-use Rattle.hb_acts.proofs.Clocks.{lists_now, onward_then}
+use Rattle.hb_acts.proofs.Clocks.{lists_now, lists_on, onward_then, told_now}
 use Rattle.hb_acts.proofs.Acting.{on_err, on_err_map, on_ok_map, stops_error, stops_later, stops_memory, halted_front, halted_own, reached_line}
 use Rattle.hb_acts.proofs.Chains.{halted_act, halted_before, halted_none, halted_then, prints_since, reached_act, reached_then}
 use Rattle.hb_acts.proofs.acts.act_line.Goals as goal
 
 pub returns-in_err-own-clause-part : goal.returns-in_err-own-clause-part
-returns-in_err-own-clause-part g c = on_err _ _ (halted_none (running c.args.sessions.now (lists_now (meanings g.N.Node.named g.N.Node.trail g.N.Node.explains g.N.Node.leaves g.N.Node.last) (meanings g.M.Node.named g.M.Node.trail g.M.Node.explains g.M.Node.leaves g.M.Node.last) c.args.nodes.now)) (does c.args.number c.args.said ∷ []) (g.O.Sink.held c.args.sink.now) (g.O.Sink.held c.args.sink.now) refl)
+returns-in_err-own-clause-part g c = on_err _ _ (halted_none (running c.args.sessions.now (lists_now (meanings g.N.Node.named g.N.Node.trail g.N.Node.explains g.N.Node.leaves g.N.Node.last) (meanings g.M.Node.named g.M.Node.trail g.M.Node.explains g.M.Node.leaves g.M.Node.last) c.args.nodes.now)) (running c.do_said.new.sessions (lists_now (meanings g.N.Node.named g.N.Node.trail g.N.Node.explains g.N.Node.leaves g.N.Node.last) (meanings g.M.Node.named g.M.Node.trail g.M.Node.explains g.M.Node.leaves g.M.Node.last) c.do_said.new.nodes)) (does c.args.number c.args.said) [] (g.O.Sink.held c.args.sink.now) (g.O.Sink.held c.args.sink.now) refl
+    (record { names = c.do_said.ensures.names; lines = c.do_said.ensures.adds; lists = lists_on (told_now (meanings g.N.Node.named g.N.Node.trail g.N.Node.explains g.N.Node.leaves g.N.Node.last) (meanings g.M.Node.named g.M.Node.trail g.M.Node.explains g.M.Node.leaves g.M.Node.last)) c.args.nodes.now c.do_said.new.nodes c.do_said.ensures.goes }))
 
 pub returns-in_err-own-clause-cause : goal.returns-in_err-own-clause-cause
 returns-in_err-own-clause-cause g c =

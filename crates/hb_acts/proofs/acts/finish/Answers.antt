@@ -18,7 +18,7 @@ use Rattle.hb_acts.proofs.Chains.{halted_act, halted_before, halted_none, halted
 use Rattle.hb_acts.proofs.acts.finish.Goals as goal
 
 pub returns-in_err-act_close-clause-part : goal.returns-in_err-act_close-clause-part
-returns-in_err-act_close-clause-part g c = on_err _ _ (halted_before (running c.args.sessions.now (lists_now (meanings g.N.Node.named g.N.Node.trail g.N.Node.explains g.N.Node.leaves g.N.Node.last) (meanings g.M.Node.named g.M.Node.trail g.M.Node.explains g.M.Node.leaves g.M.Node.last) c.args.nodes.now)) (closes ∷ []) (ends c.args.count ∷ []) (g.O.Sink.held c.args.sink.now) (g.O.Sink.held c.act_close.new.sink) c.in_err-act_close.ensures.part)
+returns-in_err-act_close-clause-part g c = on_err _ _ (halted_before (running c.args.sessions.now (lists_now (meanings g.N.Node.named g.N.Node.trail g.N.Node.explains g.N.Node.leaves g.N.Node.last) (meanings g.M.Node.named g.M.Node.trail g.M.Node.explains g.M.Node.leaves g.M.Node.last) c.args.nodes.now)) (running c.act_close.new.sessions (lists_now (meanings g.N.Node.named g.N.Node.trail g.N.Node.explains g.N.Node.leaves g.N.Node.last) (meanings g.M.Node.named g.M.Node.trail g.M.Node.explains g.M.Node.leaves g.M.Node.last) c.act_close.new.nodes)) (closes ∷ []) (ends c.args.count ∷ []) (g.O.Sink.held c.args.sink.now) (g.O.Sink.held c.act_close.new.sink) c.in_err-act_close.ensures.part)
 
 pub returns-in_err-act_close-clause-cause : goal.returns-in_err-act_close-clause-cause
 returns-in_err-act_close-clause-cause g c =
@@ -35,7 +35,7 @@ returns-clause-done g c =
 pub returns-clause-part : goal.returns-clause-part
 returns-clause-part g c =
     let P : Names → Type 0 = λ names. OnErr c.put_count.result (PutsFront (g.O.Sink.held c.act_close.new.sink) (g.O.Sink.held c.put_count.new.sink) (text_of names (count_line c.args.count))) in
-    on_err_map c.put_count.result _ _ (λ puts. halted_then (running c.args.sessions.now (lists_now (meanings g.N.Node.named g.N.Node.trail g.N.Node.explains g.N.Node.leaves g.N.Node.last) (meanings g.M.Node.named g.M.Node.trail g.M.Node.explains g.M.Node.leaves g.M.Node.last) c.args.nodes.now)) (running c.act_close.new.sessions (lists_now (meanings g.N.Node.named g.N.Node.trail g.N.Node.explains g.N.Node.leaves g.N.Node.last) (meanings g.M.Node.named g.M.Node.trail g.M.Node.explains g.M.Node.leaves g.M.Node.last) c.act_close.new.nodes)) (closes ∷ []) (ends c.args.count ∷ []) (g.O.Sink.held c.args.sink.now) (g.O.Sink.held c.act_close.new.sink) (g.O.Sink.held c.put_count.new.sink) c.in_ok-act_close.ensures.done
+    on_err_map c.put_count.result _ _ (λ puts. halted_then (running c.args.sessions.now (lists_now (meanings g.N.Node.named g.N.Node.trail g.N.Node.explains g.N.Node.leaves g.N.Node.last) (meanings g.M.Node.named g.M.Node.trail g.M.Node.explains g.M.Node.leaves g.M.Node.last) c.args.nodes.now)) (running c.act_close.new.sessions (lists_now (meanings g.N.Node.named g.N.Node.trail g.N.Node.explains g.N.Node.leaves g.N.Node.last) (meanings g.M.Node.named g.M.Node.trail g.M.Node.explains g.M.Node.leaves g.M.Node.last) c.act_close.new.nodes)) (running c.act_close.new.sessions (lists_now (meanings g.N.Node.named g.N.Node.trail g.N.Node.explains g.N.Node.leaves g.N.Node.last) (meanings g.M.Node.named g.M.Node.trail g.M.Node.explains g.M.Node.leaves g.M.Node.last) c.act_close.new.nodes)) (closes ∷ []) (ends c.args.count ∷ []) (g.O.Sink.held c.args.sink.now) (g.O.Sink.held c.act_close.new.sink) (g.O.Sink.held c.put_count.new.sink) c.in_ok-act_close.ensures.done
     (halted_act (running c.act_close.new.sessions (lists_now (meanings g.N.Node.named g.N.Node.trail g.N.Node.explains g.N.Node.leaves g.N.Node.last) (meanings g.M.Node.named g.M.Node.trail g.M.Node.explains g.M.Node.leaves g.M.Node.last) c.act_close.new.nodes)) (running c.act_close.new.sessions (lists_now (meanings g.N.Node.named g.N.Node.trail g.N.Node.explains g.N.Node.leaves g.N.Node.last) (meanings g.M.Node.named g.M.Node.trail g.M.Node.explains g.M.Node.leaves g.M.Node.last) c.act_close.new.nodes)) (ends c.args.count) (text_of c.act_close.new.sessions.names.items (count_line c.args.count)) (g.O.Sink.held c.act_close.new.sink) (g.O.Sink.held c.put_count.new.sink) (refl, refl) puts))
     (subst P c.names.ensures c.put_count.ensures.part)
 

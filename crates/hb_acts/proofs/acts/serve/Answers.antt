@@ -18,7 +18,7 @@ use Rattle.hb_acts.proofs.Chains.{halted_act, halted_before, halted_none, halted
 use Rattle.hb_acts.proofs.acts.serve.Goals as goal
 
 pub returns-in_err-act_line-clause-part : goal.returns-in_err-act_line-clause-part
-returns-in_err-act_line-clause-part g c = on_err _ _ (halted_before (running c.args.sessions.now (lists_now (meanings g.N.Node.named g.N.Node.trail g.N.Node.explains g.N.Node.leaves g.N.Node.last) (meanings g.M.Node.named g.M.Node.trail g.M.Node.explains g.M.Node.leaves g.M.Node.last) c.args.nodes.now)) (does c.args.number c.args.said ∷ []) (resumes ∷ []) (g.O.Sink.held c.args.sink.now) (g.O.Sink.held c.act_line.new.sink) c.in_err-act_line.ensures.part)
+returns-in_err-act_line-clause-part g c = on_err _ _ (halted_before (running c.args.sessions.now (lists_now (meanings g.N.Node.named g.N.Node.trail g.N.Node.explains g.N.Node.leaves g.N.Node.last) (meanings g.M.Node.named g.M.Node.trail g.M.Node.explains g.M.Node.leaves g.M.Node.last) c.args.nodes.now)) (running c.act_line.new.sessions (lists_now (meanings g.N.Node.named g.N.Node.trail g.N.Node.explains g.N.Node.leaves g.N.Node.last) (meanings g.M.Node.named g.M.Node.trail g.M.Node.explains g.M.Node.leaves g.M.Node.last) c.act_line.new.nodes)) (does c.args.number c.args.said ∷ []) (resumes ∷ []) (g.O.Sink.held c.args.sink.now) (g.O.Sink.held c.act_line.new.sink) c.in_err-act_line.ensures.part)
 
 pub returns-in_err-act_line-clause-cause : goal.returns-in_err-act_line-clause-cause
 returns-in_err-act_line-clause-cause g c =
@@ -29,7 +29,7 @@ pub returns-clause-done : goal.returns-clause-done
 returns-clause-done g c = on_ok_map c.act_resume.result _ _ (λ reached. reached_then (running c.args.sessions.now (lists_now (meanings g.N.Node.named g.N.Node.trail g.N.Node.explains g.N.Node.leaves g.N.Node.last) (meanings g.M.Node.named g.M.Node.trail g.M.Node.explains g.M.Node.leaves g.M.Node.last) c.args.nodes.now)) (running c.act_line.new.sessions (lists_now (meanings g.N.Node.named g.N.Node.trail g.N.Node.explains g.N.Node.leaves g.N.Node.last) (meanings g.M.Node.named g.M.Node.trail g.M.Node.explains g.M.Node.leaves g.M.Node.last) c.act_line.new.nodes)) (running c.act_resume.new.sessions (lists_now (meanings g.N.Node.named g.N.Node.trail g.N.Node.explains g.N.Node.leaves g.N.Node.last) (meanings g.M.Node.named g.M.Node.trail g.M.Node.explains g.M.Node.leaves g.M.Node.last) c.act_resume.new.nodes)) (does c.args.number c.args.said ∷ []) (resumes ∷ []) (g.O.Sink.held c.args.sink.now) (g.O.Sink.held c.act_line.new.sink) (g.O.Sink.held c.act_resume.new.sink) c.in_ok-act_line.ensures.done reached) c.act_resume.ensures.done
 
 pub returns-clause-part : goal.returns-clause-part
-returns-clause-part g c = on_err_map c.act_resume.result _ _ (λ halted. halted_then (running c.args.sessions.now (lists_now (meanings g.N.Node.named g.N.Node.trail g.N.Node.explains g.N.Node.leaves g.N.Node.last) (meanings g.M.Node.named g.M.Node.trail g.M.Node.explains g.M.Node.leaves g.M.Node.last) c.args.nodes.now)) (running c.act_line.new.sessions (lists_now (meanings g.N.Node.named g.N.Node.trail g.N.Node.explains g.N.Node.leaves g.N.Node.last) (meanings g.M.Node.named g.M.Node.trail g.M.Node.explains g.M.Node.leaves g.M.Node.last) c.act_line.new.nodes)) (does c.args.number c.args.said ∷ []) (resumes ∷ []) (g.O.Sink.held c.args.sink.now) (g.O.Sink.held c.act_line.new.sink) (g.O.Sink.held c.act_resume.new.sink) c.in_ok-act_line.ensures.done halted) c.act_resume.ensures.part
+returns-clause-part g c = on_err_map c.act_resume.result _ _ (λ halted. halted_then (running c.args.sessions.now (lists_now (meanings g.N.Node.named g.N.Node.trail g.N.Node.explains g.N.Node.leaves g.N.Node.last) (meanings g.M.Node.named g.M.Node.trail g.M.Node.explains g.M.Node.leaves g.M.Node.last) c.args.nodes.now)) (running c.act_line.new.sessions (lists_now (meanings g.N.Node.named g.N.Node.trail g.N.Node.explains g.N.Node.leaves g.N.Node.last) (meanings g.M.Node.named g.M.Node.trail g.M.Node.explains g.M.Node.leaves g.M.Node.last) c.act_line.new.nodes)) (running c.act_resume.new.sessions (lists_now (meanings g.N.Node.named g.N.Node.trail g.N.Node.explains g.N.Node.leaves g.N.Node.last) (meanings g.M.Node.named g.M.Node.trail g.M.Node.explains g.M.Node.leaves g.M.Node.last) c.act_resume.new.nodes)) (does c.args.number c.args.said ∷ []) (resumes ∷ []) (g.O.Sink.held c.args.sink.now) (g.O.Sink.held c.act_line.new.sink) (g.O.Sink.held c.act_resume.new.sink) c.in_ok-act_line.ensures.done halted) c.act_resume.ensures.part
 
 pub returns-clause-goes : goal.returns-clause-goes
 returns-clause-goes g c = onward_then _ _ _ _ c.act_line.ensures.goes c.act_resume.ensures.goes
