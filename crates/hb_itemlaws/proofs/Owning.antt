@@ -1,23 +1,21 @@
 -- Whose transaction a plan asks for: each request is of the transaction of its use, and so is the use that it ends with.
-use Rattle.std.proofs.Common.{◌≡◌, ℕ, ◌+◌, List, [], ◌∷◌, ◌++◌, Option, Some, None, Result, Ok, Err, Bool, true, false, cond, refl, subst, sym, ap, ◌∙◌}
+use Rattle.std.proofs.Common.{◌≡◌, ℕ, ◌+◌, List, [], ◌∷◌, Option, Some, None, Result, Ok, Err, Bool, true, false, cond, ap}
 use Rattle.std.specs.Prelude.{nat_le, nat_lt}
 use Rattle.hb_types.specs.declared.answer.Answer.{Answer}
 use Rattle.hb_types.specs.declared.change.Change.{Change}
-use Rattle.hb_types.specs.declared.change.Stored.{Stored}
 use Rattle.hb_types.specs.declared.lock.Mode.{Mode}
 use Rattle.hb_types.specs.declared.places.Path.{Path}
 use Rattle.hb_types.specs.declared.places.Place.{Place}
 use Rattle.hb_types.specs.declared.places.Space.{Space}
 use Rattle.hb_types.specs.declared.request.Request.TheVariants as request
-use Rattle.hb_types.specs.declared.trail.Call.{Call}
 use Rattle.hb_types.specs.Places.{node_of_area}
 use Rattle.hb_model.specs.declared.reply.Reply.{Reply}
 use Rattle.hb_model.specs.declared.reply.Reply.TheVariants as reply
 use Rattle.hb_model.specs.Does.{most_bytes}
 use Rattle.hb_model.specs.Needs.{most_locks}
-use Rattle.hb_model.specs.NodeSets.{has_node, with_node}
+use Rattle.hb_model.specs.NodeSets.{has_node}
 use Rattle.hb_talk.specs.Plans.{sizes, some_or, writes, writing}
-use Rattle.hb_talk.specs.Talk.{Talk, says, asks, going_on, and_then, Use, Planning, ◌>>=◌, ◌>>◌, pure, refused, refuse, lock, read, scan, scan_group, write, enlisted, joining, expect, done, the_row, the_rows, met, the_tx}
+use Rattle.hb_talk.specs.Talk.{Talk, says, asks, going_on, and_then, Use, Planning, ◌>>=◌, ◌>>◌, pure, refused, refuse, lock, read, scan, scan_group, write, enlisted, joining, expect, done, met, the_tx}
 use Rattle.hb_law.specs.Transactions.{tx_asked}
 
 -- all that is asked is of this transaction, and so is the use in the end

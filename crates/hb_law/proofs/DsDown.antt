@@ -9,7 +9,7 @@ use Rattle.hb_types.specs.declared.names.Tx.{Tx}
 use Rattle.hb_types.specs.declared.request.Request.TheVariants as request
 use Rattle.hb_types.specs.declared.trail.Call.{Call}
 use Rattle.std.proofs.lemmas.Bool.{false≢true}
-use Rattle.hb_types.specs.Lists.{Each, IsIn}
+use Rattle.hb_types.specs.Lists.{Each}
 use Rattle.hb_types.specs.Records.{framed}
 use Rattle.hb_model.specs.declared.reply.Reply.{Reply}
 use Rattle.hb_model.specs.declared.reply.Reply.TheVariants as reply

@@ -1,5 +1,5 @@
 -- Worlds that the premises of the law shut out, each with the clause that does it.
-use Rattle.std.proofs.Common.{◌≡◌, ◌⊎◌, ℕ, ℤ, true, false, List, [], ◌∷◌, ◌++◌, Option, Some, None, refl, subst, sym, ap, arith, inl, inr}
+use Rattle.std.proofs.Common.{◌≡◌, ◌⊎◌, ℕ, ℤ, false, List, [], ◌∷◌, ◌++◌, Option, Some, None, refl, subst, sym, ap, arith, inl, inr}
 use Rattle.std.specs.Prelude.{IsTrue, Ok, codes, not, pos, ◌||◌, ⊤}
 use Rattle.std.proofs.lemmas.Bool.{false≢true}
 use Rattle.hb_types.specs.declared.answer.Answer.TheVariants as answer
@@ -21,7 +21,7 @@ use Rattle.hb_model.specs.declared.reply.Reply.TheVariants as reply
 use Rattle.hb_model.specs.declared.statement.Statement.TheVariants as statement
 use Rattle.hb_model.specs.Answers.{call}
 use Rattle.hb_model.specs.Families.{Family}
-use Rattle.hb_model.specs.Items.{Item, sql, tending}
+use Rattle.hb_model.specs.Items.{Item, sql}
 use Rattle.hb_disks.specs.Disks.{written}
 use Rattle.hb_disks.specs.Images.{Images}
 use Rattle.hb_disks.specs.Logless.{empty_images, empty_logs}
@@ -34,7 +34,7 @@ use Rattle.hb_law.specs.Transcript.{AreOthers, IsInProgress, IsPart, IsTold}
 use Rattle.hb_law.specs.Histories.{Event, calls, shows}
 use Rattle.hb_law.specs.InTime.{InItsOrder}
 use Rattle.hb_law.specs.RunAlone.{MovesRows}
-use Rattle.hb_law.specs.Transactions.{AreTxns, BeginsIt, CommitTells, IsApart, IsOver, IsRightTending, IsRightTxn, ShowsAnswered, Txn, begins_of, tx_asked}
+use Rattle.hb_law.specs.Transactions.{AreTxns, BeginsIt, CommitTells, IsApart, IsOver, IsRightTending, IsRightTxn, ShowsAnswered, begins_of, tx_asked}
 
 abbrev t1 : Tx
 t1 = record { 0 = 1 }

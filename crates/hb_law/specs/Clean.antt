@@ -1,5 +1,5 @@
 -- Clean: no row is shown that another transaction has not committed.
-use Rattle.std.specs.Prelude.{◌≡◌, ℕ, IsTrue, List, [], ◌∷◌, ◌++◌, Option, ⊤}
+use Rattle.std.specs.Prelude.{◌≡◌, ℕ, IsTrue, List, [], ◌++◌, Option, ⊤}
 use Rattle.hb_types.specs.declared.value.Value.{Value}
 use Rattle.hb_types.specs.Lists.{Each, IsIn, EachBehind}
 use Rattle.hb_model.specs.declared.table.Table.{Table}

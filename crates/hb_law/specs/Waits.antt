@@ -1,5 +1,5 @@
 -- Waiting edges and cycles of them.
-use Rattle.std.specs.Prelude.{◌≡◌, ◌≢◌, ◌==◌, Bool, false, not, ◌⊎◌, IsTrue, List, [], ◌∷◌, ◌++◌, All, Any, Contains, filter, if◌then◌else◌, Some, ⊤}
+use Rattle.std.specs.Prelude.{◌≡◌, ◌≢◌, ◌==◌, Bool, false, not, ◌⊎◌, IsTrue, List, [], ◌∷◌, ◌++◌, All, Any, Contains, filter, if◌then◌else◌, Some}
 use Rattle.hb_types.specs.declared.lock.Holder.{Holder}
 use Rattle.hb_types.specs.declared.lock.Mode.{Mode}
 use Rattle.hb_types.specs.declared.change.LogItem.{LogItem}

@@ -1,6 +1,6 @@
 -- A world with a decision: a session creates an area on an empty system and commits it, ds votes, fes1 decides, and ds commits.
-use Rattle.std.proofs.Common.{◌≡◌, ◌≢◌, ◌⊎◌, ℕ, zero, suc, ◌+◌, ◌≤◌, ◌<◌, Bool, true, false, List, [], ◌∷◌, ◌++◌, length, Some, None, Ok, Result, refl, subst, sym, ap, ◌∙◌, arith, lit≤, lit<, inl, inr}
-use Rattle.std.specs.Prelude.{codes, slice_get, filter, flat_map, All, IsTrue}
+use Rattle.std.proofs.Common.{◌≡◌, ◌≢◌, ◌⊎◌, ℕ, zero, suc, ◌+◌, ◌≤◌, ◌<◌, Bool, true, false, List, [], ◌∷◌, ◌++◌, Some, None, Ok, refl, subst, sym, ap, ◌∙◌, arith, lit≤, lit<, inl, inr}
+use Rattle.std.specs.Prelude.{codes, slice_get, filter, flat_map, All}
 use Rattle.std.specs.Int.{w64}
 use Rattle.std.proofs.lemmas.Bool.{false≢true}
 use Rattle.std.proofs.lemmas.Int.{fits_signed_from_abs}
@@ -19,7 +19,6 @@ use Rattle.hb_types.specs.declared.places.Path.TheVariants as path
 use Rattle.hb_types.specs.declared.request.Request.TheVariants as request
 use Rattle.hb_types.specs.declared.request.Vote.{Vote}
 use Rattle.hb_types.specs.declared.trail.Call.{Call}
-use Rattle.hb_types.specs.declared.trail.TrailEntry.{TrailEntry}
 use Rattle.hb_types.specs.Lists.{Each, Has, IsIn}
 use Rattle.hb_types.specs.Records.{framed, IsChange, record_length}
 use Rattle.hb_types.specs.Rows.{HaveRow, HasBytes}
@@ -28,7 +27,7 @@ use Rattle.hb_model.specs.declared.reply.Reply.{Reply}
 use Rattle.hb_model.specs.declared.reply.Reply.TheVariants as reply
 use Rattle.hb_model.specs.declared.statement.Statement.{Statement}
 use Rattle.hb_model.specs.declared.statement.Statement.TheVariants as statement
-use Rattle.hb_model.specs.Answers.{AnswersOf, afters, call, HasAsked, is_decide, is_undoing}
+use Rattle.hb_model.specs.Answers.{AnswersOf, afters, call, HasAsked, is_decide}
 use Rattle.hb_model.specs.Define.{new_area}
 use Rattle.hb_model.specs.Dictionary.{area_row, at_place}
 use Rattle.hb_model.specs.Faithful.{Faithful}
@@ -69,136 +68,136 @@ use Rattle.hb_law.specs.Transactions.{Txn, OwnersApart, IsTxnOf, IsRightTxn, IsS
 
 -- ---- the world
 
-abbrev t1 : Tx
+abbrev pub t1 : Tx
 t1 = record { 0 = 1 }
 
-abbrev n1 : Number
+abbrev pub n1 : Number
 n1 = record { 0 = 1 }
 
-abbrev s1 : Owner
+abbrev pub s1 : Owner
 s1 = record { session = 0; nth = 1 }
 
-abbrev votes : List Vote
+abbrev pub votes : List Vote
 votes = record { node = record { 0 = 1 }; floor = record { 0 = 0 } } ∷ []
 
-abbrev area : Area
+abbrev pub area : Area
 area = new_area nothing (codes "A") 1
 
-abbrev row : Change
+abbrev pub row : Change
 row = let r = at_place areas_space 0 area.number (area_row area) in record { place = r.place; row = Some r.row }
 
-abbrev areas : Path
+abbrev pub areas : Path
 areas = path.Whole (dictionary_space areas_space)
 
-abbrev held : Held
+abbrev pub held : Held
 held = record { path = areas; mode = mode.X }
 
-abbrev started : ℕ → Call
+abbrev pub started : ℕ → Call
 started node = call node request.Start (answer.Started [])
 
-abbrev begins : Call
+abbrev pub begins : Call
 begins = call 0 (request.Begin s1) (answer.Begun t1)
 
-abbrev enters : Call
+abbrev pub enters : Call
 enters = call 10 (request.Enter t1 s1) answer.Done
 
-abbrev enlists : Call
+abbrev pub enlists : Call
 enlists = call 1 (request.Enlist t1) answer.Done
 
-abbrev locks : Call
+abbrev pub locks : Call
 locks = call 1 (request.Lock t1 areas mode.X) answer.Done
 
-abbrev scans : Call
+abbrev pub scans : Call
 scans = call 1 (request.Scan t1 (dictionary_space areas_space)) (answer.Rows [])
 
-abbrev writes : Call
+abbrev pub writes : Call
 writes = call 1 (request.Write t1 row) answer.Done
 
-abbrev prepares : Call
+abbrev pub prepares : Call
 prepares = call 1 (request.Prepare t1) (answer.Vote (record { 0 = 0 }))
 
-abbrev decides : Call
+abbrev pub decides : Call
 decides = call 0 (request.Decide t1 votes) (answer.Decided n1)
 
-abbrev commits : Call
+abbrev pub commits : Call
 commits = call 1 (request.Commit t1 n1) answer.Done
 
-abbrev leaves : Call
+abbrev pub leaves : Call
 leaves = call 10 (request.End t1 (record { 0 = 0 })) answer.Done
 
-abbrev opening : List Call
+abbrev pub opening : List Call
 opening = started 0 ∷ started 1 ∷ []
 
-abbrev planned : List Call
+abbrev pub planned : List Call
 planned = enlists ∷ locks ∷ scans ∷ writes ∷ []
 
-abbrev made_by : List Call
+abbrev pub made_by : List Call
 made_by = begins ∷ enters ∷ planned
 
-abbrev committed_by : List Call
+abbrev pub committed_by : List Call
 committed_by = prepares ∷ decides ∷ commits ∷ leaves ∷ []
 
-abbrev all_asked : List Call
+abbrev pub all_asked : List Call
 all_asked = made_by ++ committed_by ++ []
 
-abbrev create : Statement
+abbrev pub create : Statement
 create = statement.CreateArea (codes "A") (codes "bes1")
 
-abbrev committed : Reply
+abbrev pub committed : Reply
 committed = reply.Committed n1
 
-abbrev opens : Item
+abbrev pub opens : Item
 opens = record { place = 0; doing = tending; calls = opening; lines = [] }
 
-abbrev makes : Item
+abbrev pub makes : Item
 makes = record { place = 1; doing = sql create; calls = made_by; lines = reply.Created ∷ [] }
 
-abbrev closes : Item
+abbrev pub closes : Item
 closes = record { place = 2; doing = sql statement.Commit; calls = committed_by; lines = committed ∷ [] }
 
-abbrev all_lists : List (List Item)
+abbrev pub all_lists : List (List Item)
 all_lists = (opens ∷ []) ∷ (makes ∷ closes ∷ []) ∷ []
 
-abbrev by : ℕ → Call → Labelled
+abbrev pub by : ℕ → Call → Labelled
 by caller c = record { caller = caller; entry = record { caller = caller; nth = 1; request = c.request; answer = c.answer; from = 0; to = 0 } }
 
-abbrev fes_trail : List Labelled
+abbrev pub fes_trail : List Labelled
 fes_trail = by 0 (started 0) ∷ by 1 begins ∷ by 1 decides ∷ []
 
-abbrev ds_trail : List Labelled
+abbrev pub ds_trail : List Labelled
 ds_trail = by 0 (started 1) ∷ by 1 enlists ∷ by 1 locks ∷ by 1 scans ∷ by 1 writes ∷ by 1 prepares ∷ by 1 commits ∷ []
 
-abbrev all_trails : Trails
+abbrev pub all_trails : Trails
 all_trails = fes_trail ∷ ds_trail ∷ [] ∷ []
 
-abbrev reserved : LogItem
+abbrev pub reserved : LogItem
 reserved = item.Ids 1000
 
-abbrev decision : LogItem
+abbrev pub decision : LogItem
 decision = item.Decision t1 n1 (record { 0 = 1 } ∷ [])
 
-abbrev vote : LogItem
+abbrev pub vote : LogItem
 vote = item.Prepare t1 (record { 0 = 0 }) (held ∷ []) (row ∷ [])
 
-abbrev end : LogItem
+abbrev pub end : LogItem
 end = item.Commit t1 n1
 
-abbrev two_records : LogItem → LogItem → List ℕ
+abbrev pub two_records : LogItem → LogItem → List ℕ
 two_records i j = 1 ∷ framed i ++ 1 ∷ framed j ++ 0 ∷ []
 
-abbrev after_images : Images
+abbrev pub after_images : Images
 after_images = record { fes = two_records reserved decision; servers = record { log = two_records vote end; area = [] } ∷ empty_server ∷ [] }
 
-abbrev after_logs : Logs
+abbrev pub after_logs : Logs
 after_logs = record { fes = reserved ∷ decision ∷ []; servers = (vote ∷ end ∷ []) ∷ [] ∷ [] }
 
-abbrev began : Txn
+abbrev pub began : Txn
 began = record { owner = s1; tx = 1; items = makes ∷ closes ∷ [] }
 
-abbrev all_lines : List Shown
+abbrev pub all_lines : List Shown
 all_lines = record { caller = 1; place = 1; reply = reply.Created } ∷ record { caller = 1; place = 2; reply = committed } ∷ []
 
-abbrev world : World
+abbrev pub world : World
 world =
     record {
       base_images = empty_images;
@@ -216,13 +215,13 @@ world =
 some_is : {A : Type 0} (x y : A) → Some x ≡ Some y → x ≡ y
 some_is x y h = cc
 
-none_is : {A B : Type 0} (x : A) → None ≡ Some x → B
+pub none_is : {A B : Type 0} (x : A) → None ≡ Some x → B
 none_is x h = cc
 
 at_two : {A B : Type 0} (P : A → B → Type 0) (a x : A) (b y : B) → Some a ≡ Some x → Some b ≡ Some y → P a b → P x y
 at_two P a x b y e f p = subst (λ z. P x z) (some_is b y f) (subst (λ z. P z b) (some_is a x e) p)
 
-at_one : {A : Type 0} (P : A → Type 0) (a x : A) → Some a ≡ Some x → P a → P x
+pub at_one : {A : Type 0} (P : A → Type 0) (a x : A) → Some a ≡ Some x → P a → P x
 at_one P a x e p = subst P (some_is a x e) p
 
 neither : {A B : Type 0} → (A → ⊥) → (B → ⊥) → A ⊎ B → ⊥
@@ -234,34 +233,34 @@ nobody h = h
 
 -- ---- nodes
 
-abbrev s0 : server.SState
+abbrev pub s0 : server.SState
 s0 = runs.stopped_at (redo []) (end_behind 0 [])
 
-abbrev sa : server.SState
+abbrev pub sa : server.SState
 sa = effect.happens s0 effect.came_up
 
-abbrev sb : server.SState
+abbrev pub sb : server.SState
 sb = effect.happens sa (effect.enlisted 1)
 
-abbrev sc : server.SState
+abbrev pub sc : server.SState
 sc = effect.happens sb (effect.granted 1 areas mode.X)
 
-abbrev sd : server.SState
+abbrev pub sd : server.SState
 sd = effect.happens sc (effect.written 1 row)
 
-abbrev se : server.SState
+abbrev pub se : server.SState
 se = effect.happens sd (effect.prepared 1)
 
-abbrev sf : server.SState
+abbrev pub sf : server.SState
 sf = effect.happens se (effect.committed 1 1)
 
-abbrev new_branch : server.Branch
+abbrev pub new_branch : server.Branch
 new_branch = record { tx = 1; locks = []; own = [] }
 
-abbrev locked : server.Branch
+abbrev pub locked : server.Branch
 locked = record { tx = 1; locks = held ∷ []; own = [] }
 
-abbrev wrote : server.Branch
+abbrev pub wrote : server.Branch
 wrote = record { tx = 1; locks = held ∷ []; own = row ∷ [] }
 
 ds_ran : ServerRan [] (vote ∷ end ∷ []) ds_trail
@@ -304,16 +303,16 @@ ds_ran =
 bes_ran : ServerRan [] [] []
 bes_ran = record { last = _; ran = refl; log = refl }
 
-abbrev k0 : coordinator.CState
+abbrev pub k0 : coordinator.CState
 k0 = coordinator.stopped_at []
 
-abbrev k1 : coordinator.CState
+abbrev pub k1 : coordinator.CState
 k1 = coordinator.happens k0 coordinator.came_up
 
-abbrev k2 : coordinator.CState
+abbrev pub k2 : coordinator.CState
 k2 = coordinator.happens (coordinator.happens k1 (coordinator.reserved 1000)) (coordinator.begun 1)
 
-abbrev k3 : coordinator.CState
+abbrev pub k3 : coordinator.CState
 k3 = coordinator.happens (coordinator.happens k2 (coordinator.decided 1 1 (record { 0 = 1 } ∷ []))) (coordinator.ended 1)
 
 fes_ran : CoordinatorRan [] (reserved ∷ decision ∷ []) fes_trail
@@ -402,22 +401,22 @@ no : {A : Type 0} → false ≡ true → A
 no h = absurd (false≢true h)
 
 -- the calls since the Begin that neither decide nor undo nor prepare
-abbrev a1 : List Call
+abbrev pub a1 : List Call
 a1 = enters ∷ []
 
-abbrev a2 : List Call
+abbrev pub a2 : List Call
 a2 = enters ∷ enlists ∷ []
 
-abbrev a3 : List Call
+abbrev pub a3 : List Call
 a3 = enters ∷ enlists ∷ locks ∷ []
 
-abbrev a4 : List Call
+abbrev pub a4 : List Call
 a4 = enters ∷ enlists ∷ locks ∷ scans ∷ []
 
-abbrev a5 : List Call
+abbrev pub a5 : List Call
 a5 = enters ∷ planned
 
-abbrev a6 : List Call
+abbrev pub a6 : List Call
 a6 = enters ∷ planned ++ prepares ∷ []
 
 may_enlist : MayEnlist 1 a1
@@ -520,7 +519,7 @@ began_here =
     }
 
 -- the use of ds with one lock, and a change of so many bytes
-abbrev in_the_end : Use
+abbrev pub in_the_end : Use
 in_the_end = record (fresh 1) { used = 2; locks = 1; bytes = 27 }
 
 follows : Follows false (plan 1 create (fresh 1)) planned (Ok reply.Created, in_the_end)

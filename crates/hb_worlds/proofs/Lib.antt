@@ -1,1 +1,2 @@
 pub mod AreaMade
+pub mod AreaRun
