@@ -4,6 +4,7 @@ ghost use Rattle.hb_parts.specs.Turning.{ChainsKeepNumbers, ChecksWereStepsBy, H
 use hb_coordlaws::{decided_were_given, decision_stands, decisions_grow, transactions_ascend};
 use hb_model::names_stay;
 use hb_onefamily::one_system;
+use hb_steps::txns_have_items;
 use hb_votes::{new_are_decided, servers_ran};
 use hb_whose::given_are_new;
 
@@ -39,5 +40,6 @@ pub fn checks_were_steps()
     new_are_decided();
     servers_ran();
     one_system();
+    txns_have_items();
     chains_keep_numbers();
 }

@@ -3,7 +3,7 @@ use Rattle.hb_checks.proofs.laws.checks_were_steps.Goals as goal
 
 pub returns : goal.returns
 returns c =
-    λ items tell. were_steps
+    λ tell. were_steps
     (record {
       ascend = c.transactions_ascend.ensures;
       grow = c.decisions_grow.ensures;
@@ -13,5 +13,5 @@ returns c =
       decided = c.new_are_decided.ensures;
       servers = c.servers_ran.ensures;
       one = c.one_system.ensures;
-      items = items;
+      items = c.txns_have_items.ensures;
     }) c.chains_keep_numbers.ensures tell

@@ -3,7 +3,7 @@ use Rattle.hb_turns.proofs.laws.completes_are_balanced.Goals as goal
 
 pub returns : goal.returns
 returns c =
-    λ items. balanced_at_completes
+    balanced_at_completes
     (record {
       ascend = c.transactions_ascend.ensures;
       grow = c.decisions_grow.ensures;
@@ -13,5 +13,5 @@ returns c =
       decided = c.new_are_decided.ensures;
       servers = c.servers_ran.ensures;
       one = c.one_system.ensures;
-      items = items;
+      items = c.txns_have_items.ensures;
     }) c.check_tells.ensures

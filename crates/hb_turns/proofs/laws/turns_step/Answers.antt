@@ -3,9 +3,9 @@ use Rattle.hb_turns.proofs.laws.turns_step.Goals as goal
 
 pub returns : goal.returns
 returns c =
-    λ items. step_of
+    step_of
     (record {
-      were = c.checks_were_steps.ensures items c.checks_tell_numbers.ensures;
+      were = c.checks_were_steps.ensures c.checks_tell_numbers.ensures;
       few = c.hints_are_few.ensures;
       check_tells = c.check_tells.ensures;
       batch_moves = c.batch_moves.ensures;
