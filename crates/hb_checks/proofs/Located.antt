@@ -13,7 +13,7 @@ use Rattle.hb_whose.proofs.Trailing.{calls_at_append, same_number}
 
 -- ---- lists in parts
 
-pub asked_append : (xs ys : List Labelled) → asked_of (xs ++ ys) ≡ asked_of xs ++ asked_of ys
+asked_append : (xs ys : List Labelled) → asked_of (xs ++ ys) ≡ asked_of xs ++ asked_of ys
 asked_append [] ys = refl
 asked_append (x ∷ xs) ys = ap (λ l. asked x.entry ∷ l) (asked_append xs ys)
 

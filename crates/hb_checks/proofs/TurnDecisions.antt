@@ -75,7 +75,7 @@ decided_heads : (x y : Decided) (xs ys : List Decided) → x ∷ xs ≡ y ∷ ys
 decided_heads x y xs ys e = (cc, cc)
 
 -- of a decision among the first ones, and one that is not, the first is among those before
-pub before_it : (xs more front : List Decided) (d : Decided) (back : List Decided) (y : Decided) → xs ++ more ≡ front ++ d ∷ back → (IsIn d xs → ⊥) → IsIn y xs → IsIn y front
+before_it : (xs more front : List Decided) (d : Decided) (back : List Decided) (y : Decided) → xs ++ more ≡ front ++ d ∷ back → (IsIn d xs → ⊥) → IsIn y xs → IsIn y front
 before_it [] more front d back y e n i = absurd i
 before_it (x ∷ xs) more [] d back y e n i = absurd (n (inl (decided_heads x d (xs ++ more) back e).0))
 before_it (x ∷ xs) more (f ∷ fs) d back y e n i = by i (λ j. before_it xs more fs d back y (decided_heads x f (xs ++ more) (fs ++ d ∷ back) e).1 (λ h. n (inr h)) j)
@@ -119,7 +119,7 @@ module _ (laws : Laws) (base logs : Logs) (trails : Trails) (lists : List (List 
   ran = it.callings.nodes.fes fes at
 
   -- what was begun in a caller's list was given, and is of no decision of the base
-  pub is_new : (caller : ℕ) (list : List Call) (tx : ℕ) (d : Decided) → slice_get calls caller ≡ Some list → IsIn tx (begins_of list) → d.tx ≡ tx → IsIn d (decided base) → ⊥
+  is_new : (caller : ℕ) (list : List Call) (tx : ℕ) (d : Decided) → slice_get calls caller ≡ Some list → IsIn tx (begins_of list) → d.tx ≡ tx → IsIn d (decided base) → ⊥
   is_new caller list tx d its begun e i =
       let above : greatest_upto base.fes < tx = in_Each (λ t. greatest_upto base.fes < t) tx (given (asked_of fes)) (begun_given laws.ascend base logs trails calls it.callings fes at caller list tx its begun)
       (laws.news base logs trails calls fes it.callings at) in
