@@ -63,7 +63,7 @@ own_one : (i : Item) (is : List Item) (b : Bool) → is_idle i ≡ b → calls_o
 own_one i is true e = rw e (ap (λ l. l ++ calls_of (own_items is)) (sym (idle_calls i.calls (list_all is_aside i.lines) e)))
 own_one i is false e = rw e refl
 
-calls_with : (is : List Item) → calls_of (own_items is) ≡ calls_of is
+pub calls_with : (is : List Item) → calls_of (own_items is) ≡ calls_of is
 calls_with [] = refl
 calls_with (i ∷ is) = own_one i is (is_idle i) refl ∙ ap (λ l. i.calls ++ l) (calls_with is)
 
@@ -90,7 +90,7 @@ nil_front (y ∷ ys) vs h = absurd (cons_nil y (ys ++ vs) h)
 pub front_none : (us vs : List Call) → begins_of (us ++ vs) ≡ [] → begins_of us ≡ []
 front_none us vs h = nil_front (begins_of us) (begins_of vs) (sym (begins_append us vs) ∙ h)
 
-back_none : (us vs : List Call) → begins_of (us ++ vs) ≡ [] → begins_of vs ≡ []
+pub back_none : (us vs : List Call) → begins_of (us ++ vs) ≡ [] → begins_of vs ≡ []
 back_none us vs h = let f = front_none us vs h in sym (ap (λ l. l ++ begins_of vs) f) ∙ sym (begins_append us vs) ∙ h
 
 -- calls that begin nothing, in front of a list that goes on as another up to where one begins
@@ -99,7 +99,7 @@ pub record GoesOn (course after xs ys : List Call) : Type 0 where
   pub parts : course ≡ xs ++ rest
   pub behind : ys ≡ rest ++ after
 
-goes_on : (course after xs ys : List Call) → course ++ after ≡ xs ++ ys → begins_of xs ≡ []
+pub goes_on : (course after xs ys : List Call) → course ++ after ≡ xs ++ ys → begins_of xs ≡ []
     → (after ≡ []) ⊎ ((c : Call) × (more : List Call) × (after ≡ c ∷ more) × (begins_of (c ∷ []) ≢ [])) → GoesOn course after xs ys
 goes_on course after xs ys e none next = by (either_front course after xs ys e)
   where
@@ -125,7 +125,7 @@ goes_on course after xs ys e none next = by (either_front course after xs ys e)
 
 -- ---- behind the items
 
-over_none : (t : ℕ) (back : List Item) (f : List Call) (y : Call) (r : List Call) → IsOver t back → calls_of back ≡ f ++ y ∷ r → begins_of f ≡ []
+pub over_none : (t : ℕ) (back : List Item) (f : List Call) (y : Call) (r : List Call) → IsOver t back → calls_of back ≡ f ++ y ∷ r → begins_of f ≡ []
     → tx_asked y.request ≡ Some t → ⊥
 over_none t [] f y r o e n q = nil f e
   where
@@ -194,7 +194,7 @@ begin_plain : (q : Request) → IsTrue (is_begin q) → (is_of_rows q ≡ false)
 begin_plain (request.Begin owner) e = (refl, refl)
 begin_plain q e = absurd (false≢true e)
 
-begins_some : (a : Answer) (t : ℕ) → begun_in a ++ [] ≡ t ∷ [] → IsTrue (is_begun a)
+pub begins_some : (a : Answer) (t : ℕ) → begun_in a ++ [] ≡ t ∷ [] → IsTrue (is_begun a)
 begins_some (answer.Begun tx) t h = refl
 begins_some a t h = absurd (nil_cons t h)
   where

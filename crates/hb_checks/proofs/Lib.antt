@@ -1,0 +1,5 @@
+pub mod Numbers
+pub mod Hints
+pub mod Located
+pub mod TurnDecisions
+pub mod Checks

@@ -1,0 +1,4 @@
+pub mod Turns
+pub mod Stepping
+pub mod Home
+pub mod Completing
