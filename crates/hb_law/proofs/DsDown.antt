@@ -286,9 +286,12 @@ right =
     record {
       right = λ o. ((false, faithful), tt);
       bound = (
-        (none_decides, (λ asked. (tt, (tt, (tt, (tt, (tt, tt)))))),
-        (record { replied = refl; of_select = λ h. absurd (false≢true h); undone = λ h. inr (inr (inr (inl refl))); sourced = λ asked named. record { shown = tt; written = (tt, (tt, (tt, (tt, (tt, tt))))) } }, tt)),
-        tt
+        (
+          none_decides,
+          (λ asked. (tt, (tt, (tt, (tt, (tt, tt)))))),
+          (record { replied = refl; of_select = λ h. absurd (false≢true h); undone = λ h. inr (inr (inr (inl refl))); sourced = λ asked named. record { shown = tt; written = (tt, (tt, (tt, (tt, (tt, tt))))) } }, tt),
+        ),
+        tt,
       );
       kinds = inl ((tt, tt), lit≤ tt);
       named = ((tt, tt), tt);
@@ -339,12 +342,22 @@ of_mgr : (c : Call) → is_begun c.answer ≡ false → tells_nothing c.answer �
 of_mgr c b t = record { begins = λ h. absurd (false≢true (sym b ∙ h)); beside = λ h. t }
 
 all_system : Each (Each IsOfSystem) (lists_of world)
-all_system =
-    ((elsewhere (call 0 request.Start (answer.Started [])) refl (lit< tt) refl, tt),
-    ((record { begins = λ h. (refl, refl); beside = λ h. elim h [ inl e ↦ absurd (not_mgr 0 (lit< tt) e) | inr t ↦ absurd (false≢true t) ] },
-    (of_mgr (call 10 (request.Enter t1 s1) answer.Done) refl refl,
-    (elsewhere (call 1 (request.Enlist t1) answer.Down) refl (lit< tt) refl,
-    (elsewhere (call 0 (request.Abort t1) answer.Done) refl (lit< tt) refl, (of_mgr (call 10 (request.End t1 (record { 0 = 0 })) answer.Done) refl refl, tt))))), tt))
+all_system = (
+  (elsewhere (call 0 request.Start (answer.Started [])) refl (lit< tt) refl, tt),
+  (
+    (
+      record { begins = λ h. (refl, refl); beside = λ h. elim h [ inl e ↦ absurd (not_mgr 0 (lit< tt) e) | inr t ↦ absurd (false≢true t) ] },
+      (
+        of_mgr (call 10 (request.Enter t1 s1) answer.Done) refl refl,
+        (
+          elsewhere (call 1 (request.Enlist t1) answer.Down) refl (lit< tt) refl,
+          (elsewhere (call 0 (request.Abort t1) answer.Done) refl (lit< tt) refl, (of_mgr (call 10 (request.End t1 (record { 0 = 0 })) answer.Done) refl refl, tt)),
+        ),
+      ),
+    ),
+    tt,
+  ),
+)
 
 pub ds_down_together : Together written world
 ds_down_together =
