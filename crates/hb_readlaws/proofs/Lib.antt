@@ -6,3 +6,4 @@ mod Stepping
 mod Ordered
 pub mod ReadExample
 pub mod FloorExample
+mod LastWriters

@@ -199,7 +199,7 @@ apart_parts [] ys x y a i j = absurd i
 apart_parts (z ∷ zs) ys x y a (inl e) j = λ q. in_Each (λ v. v ≢ z) y (zs ++ ys) (Has-back (λ v. v ≡ y) zs ys j) a.0 (q ∙ sym e)
 apart_parts (z ∷ zs) ys x y a (inr i) j = apart_parts zs ys x y a.1 i j
 
-same_changes : (l m : List LogItem) (t : ℕ) → IsOnce (l ++ m) → Has (λ p. p.tx ≡ t) (prepares l) → ch (l ++ m) t ≡ ch l t
+pub same_changes : (l m : List LogItem) (t : ℕ) → IsOnce (l ++ m) → Has (λ p. p.tx ≡ t) (prepares l) → ch (l ++ m) t ≡ ch l t
 same_changes l m t o h = ch-append l m t (Each-in (λ q. q.tx ≢ t) (prepares m) (λ q j e. apart q j e))
   where
     p : (p : Prepared) × IsIn p (prepares l) × (p.tx ≡ t)

@@ -1,5 +1,6 @@
 // Laws of reads.
 ghost use Rattle.hb_readlaws.specs.Ordering.{ReadsAreClean, SpacesAreClean, GroupsAreClean, SpacesAreFree, GroupsAreFree, RowsAreOrdered, SpacesAreOrdered, GroupsAreOrdered};
+ghost use Rattle.hb_readlaws.specs.Stood.{LastWritersStood};
 
 /// A row that is read was put by the reader itself or by a transaction that has committed.
 pub fn reads_are_clean()
@@ -39,4 +40,9 @@ pub fn spaces_are_ordered()
 /// So are the rows of a group that it read.
 pub fn groups_are_ordered()
     ensures { GroupsAreOrdered }
+{}
+
+/// A row that the last who committed put stood after the decisions of the base, or after some more.
+pub fn last_writers_stood()
+    ensures { LastWritersStood }
 {}

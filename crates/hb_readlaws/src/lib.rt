@@ -4,6 +4,6 @@
 mod laws;
 
 pub use laws::{
-    groups_are_clean, groups_are_free, groups_are_ordered, reads_are_clean, rows_are_ordered,
-    spaces_are_clean, spaces_are_free, spaces_are_ordered,
+    groups_are_clean, groups_are_free, groups_are_ordered, last_writers_stood, reads_are_clean,
+    rows_are_ordered, spaces_are_clean, spaces_are_free, spaces_are_ordered,
 };
