@@ -15,7 +15,7 @@ use Rattle.hb_model.specs.Answers.{HasAsked, is_undoing}
 use Rattle.hb_model.specs.Items.{Item, calls_of}
 use Rattle.hb_disks.specs.Images.{Logs}
 use Rattle.hb_disks.specs.Redo.{Decided}
-use Rattle.hb_law.specs.Callers.{MayDecide, is_begun}
+use Rattle.hb_law.specs.Callers.{MayDecide}
 use Rattle.hb_law.specs.Histories.{Labelled, Trails, asked_of}
 use Rattle.hb_law.specs.Transactions.{AllAsk, IsApart, IsTxnOf, Txn, begins_of, caller_of, is_idle, own_items, tx_asked}
 use Rattle.hb_coordlaws.specs.Ascending.{TransactionsAscend, given}
