@@ -75,10 +75,6 @@ pub record Planned : Type 0 where
 abbrev pub planned_at : Stage → Planned
 planned_at s = record { usage = usage_at s; stage = s }
 
--- what it has used is what its stage counts
-abbrev pub IsCounted : Planned → Type 0
-IsCounted p = p.usage ≡ usage_at p.stage
-
 unfoldable pub is_asking : Planned → Bool
 is_asking p = asking_at p.stage
 

@@ -141,17 +141,6 @@ first_carried s new st tx p shows is usage talk carries =
     (λ sts. ap free (goes_on s st sts (fresh tx.0) is) ∙ ap (λ t. free (planned s sts t)) (sym talk))
     (subst (λ (u : Usage). CarriesOn (λ sts. free (planned s sts (now_talks p))) u s new shows) usage carries)
 
-pub first_out : (s new : Sitting) (c : List Statement → Course (List Reply)) (tx : Tx) → SameSession s new → new.begun ≡ s.begun → is_busy new.stage ≡ true
-    → RollsBack (fresh tx.0) reply.NoMemory new → is_ending new.stage ≡ true → CarriesOn c (nothing_used tx) s new progress.More
-first_out s new c tx same begun busy rolled ending = record {
-  same = same;
-  begun = begun;
-  leaves = busy;
-  edges = refl;
-  goes = inr (fresh tx.0, refl, each_in 0, rolled, refl);
-  moves = inr (fresh_undone tx reply.NoMemory new rolled ending);
-}
-
 -- ---- given
 
 pub if_ok : {A E : Type 0} (r : Result A E) (P Q : A → Type 0) → ((x : A) → P x → Q x) → IfOk r P → IfOk r Q

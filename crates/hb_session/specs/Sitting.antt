@@ -14,7 +14,7 @@ use Rattle.hb_access.specs.Accesses.{use_of}
 use Rattle.hb_access.specs.declared.usage.Usage.{Usage}
 use Rattle.hb_commit.specs.Driving.{Driving, Replies, AreBranches, IsSound, now_talks as driver_talks, is_waiting as driver_waits}
 use Rattle.hb_types.specs.declared.request.Request.TheVariants as request
-use Rattle.hb_plan.specs.Planned.{Planned, Said, IsCounted, is_planned, now_talks, now_hears, is_waiting as plan_waits}
+use Rattle.hb_plan.specs.Planned.{Planned, Said, is_planned, now_talks, now_hears, is_waiting as plan_waits}
 use Rattle.hb_wait.specs.Courses.{Course, free, pending_in}
 use Rattle.hb_wait.specs.Waiting.{IsPending, is_waiting as waits_for_lock}
 use Rattle.hb_session.specs.declared.stage.Stage.{Stage}
@@ -117,7 +117,6 @@ IsUsed u = IsNumber u.tx.0 × AreBranches u.used.0
 
 pub record IsAsking (plan : Planned) : Type 0 where
   pub used : IsUsed plan.usage
-  pub counted : IsCounted plan
   pub waiting : plan_waits plan ≡ true
 
 pub record IsEnding (u : Usage) (d : Driving) : Type 0 where

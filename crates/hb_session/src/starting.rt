@@ -87,13 +87,8 @@ impl Session {
         requires given { IsGiven statement }
         ensures { CarriesOn (λ sts. free (going self.old.back_ends (owner self.old) (statement ∷ sts) (fresh tx.0))) (nothing_used tx) self.old self.new result }
     {
-        match Plan::begin(self.alloc, unused(tx), self.back_ends, statement) {
-            Ok(plan) => self.go_on(plan),
-            Err(_) => {
-                self.roll_back(unused(tx), Reply::NoMemory);
-                Progress::More
-            }
-        }
+        let plan = Plan::begin(self.alloc, unused(tx), self.back_ends, statement);
+        self.go_on(plan)
     }
 
     /// Gives a statement in a transaction that is between two.
@@ -123,10 +118,8 @@ impl Session {
         ensures kept { IfErr result (λ e. self.new ≡ self.old) }
         ensures given { IfOk result (λ x. Gives self.old self.new statement) }
     {
-        match Plan::begin(self.alloc, usage, self.back_ends, statement) {
-            Ok(plan) => self.give_plan(plan),
-            Err(_) => Err(GiveFault::NoMemory),
-        }
+        let plan = Plan::begin(self.alloc, usage, self.back_ends, statement);
+        self.give_plan(plan)
     }
 
     fn give_plan(&mut self, mut plan: Plan) -> Result<(), GiveFault>

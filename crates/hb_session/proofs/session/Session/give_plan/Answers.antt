@@ -22,7 +22,6 @@ hold-requires-clause-asking c =
         subst IsNumber (sym c.in-Ask.ensures.tx) c.requires.used.0,
         used_next c.args.plan held.usage.used.0 c.in-Ask.node c.in-Ask.request (now_hears held) c.in-Ask.ensures.used (c.in-Ask.ensures.sound c.requires.used.0).1 told.1 (inl c.requires.used.1),
       );
-      counted = c.in-Ask.ensures.counted;
       waiting = told.0;
     }
 

@@ -25,7 +25,6 @@ hold-requires-clause-asking c =
         subst IsNumber (sym c.in-Ask.ensures.tx) c.requires.tx,
         used_next c.args.plan held.usage.used.0 c.in-Ask.node c.in-Ask.request (now_hears held) c.in-Ask.ensures.used (c.in-Ask.ensures.sound c.requires.tx).1 told.1 c.requires.starts,
       );
-      counted = c.in-Ask.ensures.counted;
       waiting = told.0;
     }
 
