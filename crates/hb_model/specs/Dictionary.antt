@@ -84,6 +84,10 @@ abbrev pub member_in : List Value → Option ℕ
 member_in (Int area ∷ []) = Some (size_of area)
 member_in _ = None
 
+-- no area of ds holds a group
+abbrev pub entry_of_areas : ℕ → ℕ → Option Entry
+entry_of_areas a b = if a == 0 then None else Some (if b == 0 then At a else Moving a b)
+
 abbrev pub entry_in : List Value → Option Entry
-entry_in (Int a ∷ Int b ∷ []) = Some (if size_of b == 0 then At (size_of a) else Moving (size_of a) (size_of b))
+entry_in (Int a ∷ Int b ∷ []) = entry_of_areas (size_of a) (size_of b)
 entry_in _ = None
