@@ -1,13 +1,14 @@
--- The bytes of values within INTEGER give them back.
-use Rattle.std.proofs.Common.{◌≡◌, ℕ, suc, ◌+◌, ◌<◌, Bool, true, false, true≢false, not, List, [], ◌∷◌, ◌++◌, length, map, take, drop, Some, pos, negsuc, ℤ, refl, sym, ◌∙◌, ap, arith, length-append, add-one}
-use Rattle.std.specs.Prelude.{◌||◌, nat_le, nat_lt, IsTrue}
-use Rattle.std.specs.Int.{w32, cast_signed, cast_unsigned}
+-- The bytes of values within INTEGER give them back, and bytes tell no others.
+use Rattle.std.proofs.Common.{◌≡◌, ℕ, zero, suc, ◌≤◌, ◌+◌, ◌-◌, ◌<◌, ◌==◌, ◌&&◌, Bool, true, false, cond, true≢false, not, List, [], ◌∷◌, ◌++◌, length, map, take, drop, Option, Some, None, pos, negsuc, ℤ, refl, subst, sym, ◌∙◌, ap, arith, length-append, add-one}
+use Rattle.std.specs.Prelude.{◌||◌, ⊤, nat_le, nat_lt, slice_index_or, IsTrue, MatchOption}
+use Rattle.std.specs.Int.{w32, cast_signed, cast_unsigned, from_le_bytes}
 use Rattle.std.specs.List.{list_any}
 use Rattle.std.proofs.lemmas.Bool.{le-leb, lt-ltb}
+use Rattle.std.proofs.lemmas.Bool.Decides.{nat_tests}
 use Rattle.std.proofs.lemmas.Int.{ints, to_z-of_z}
 use Rattle.std.proofs.lemmas.Nat.{from_le_bytes-to_le_bytes_4}
 use Rattle.std.proofs.Math.Seq.{take-append_seam, drop-append_seam}
-use mir.Val.{SFits}
+use mir.Val.{SFits, sel}
 use Rattle.hb_types.specs.declared.value.Value.{Value}
 use Rattle.hb_types.specs.declared.value.Value.TheVariants.{Int, Text}
 use Rattle.hb_types.specs.Lists.{joined}
@@ -61,3 +62,49 @@ all_back (v ∷ vs) inside =
 
 pub values_back : (vs : List Value) → list_any is_outside vs ≡ false → values_in (row_bytes vs) ≡ Some vs
 values_back vs inside = all_back vs inside
+
+-- ---- what bytes tell
+
+abbrev AreInside : Option (List Value) → Type 0
+AreInside o = MatchOption o ⊤ (λ vs. list_any is_outside vs ≡ false)
+
+low_inside : (n : ℕ) → n < 2147483648 → is_integer (pos n) ≡ true
+low_inside n low = grind (arith, ints)
+
+negative_inside : (n : ℕ) → n < 2147483648 → is_integer (negsuc n) ≡ true
+negative_inside n low = grind (arith, ints)
+
+signed_inside : (n : ℕ) → is_integer (cast_signed w32 n) ≡ true
+signed_inside n = by_test (nat_lt n 2147483648) refl
+  where
+    by_test : (b : Bool) → nat_lt n 2147483648 ≡ b → is_integer (sel b (pos n) (negsuc (4294967296 - suc n))) ≡ true
+    by_test true e = low_inside n (grind (arith, nat_tests))
+    by_test false e = let high : 2147483648 ≤ n = grind (arith, nat_tests) in negative_inside (4294967296 - suc n) (omega (arith, high))
+
+either_inside : (b : Bool) (x y : Option (List Value)) → AreInside x → AreInside y → AreInside (cond b x y)
+either_inside true x y p q = p
+either_inside false x y p q = q
+
+before_inside : (v : Value) (o : Option (List Value)) → is_outside v ≡ false → AreInside o → AreInside (before v o)
+before_inside v None one more = tt
+before_inside v (Some vs) one more = rw one more
+
+from_inside : (n : ℕ) (bytes : List ℕ) → AreInside (values_from n bytes)
+from_inside zero [] = refl
+from_inside zero (b ∷ bs) = tt
+from_inside (suc n) [] = tt
+from_inside (suc n) (kind ∷ bs) =
+    either_inside (kind == 1) _ _
+    (either_inside (nat_le 4 (length bs)) _ _
+    (before_inside (integer_in (take 4 bs)) (values_from n (drop 4 bs)) (ap not (signed_inside (from_le_bytes w32 (take 4 bs)))) (from_inside n (drop 4 bs))) tt)
+    (either_inside ((kind == 2) && nat_lt (slice_index_or bs 0 0) (length bs)) _ _
+    (before_inside (Text (take (slice_index_or bs 0 0) (drop 1 bs))) (values_from n (drop (slice_index_or bs 0 0 + 1) bs)) refl
+    (from_inside n (drop (slice_index_or bs 0 0 + 1) bs))) tt)
+
+row_inside : (bytes : List ℕ) → AreInside (values_in bytes)
+row_inside [] = tt
+row_inside (format ∷ []) = tt
+row_inside (format ∷ count ∷ bs) = either_inside (format == 1) _ _ (from_inside count bs) tt
+
+pub values_inside : (bytes : List ℕ) (vs : List Value) → values_in bytes ≡ Some vs → list_any is_outside vs ≡ false
+values_inside bytes vs is = subst AreInside is (row_inside bytes)
