@@ -8,7 +8,7 @@ use Rattle.hb_types.specs.declared.request.Request.TheVariants as request
 use Rattle.hb_types.specs.declared.request.Vote.{Vote}
 use Rattle.hb_types.specs.declared.trail.Call.{Call}
 use Rattle.hb_types.specs.Lists.{Ascends, Each, IsIn}
-use Rattle.hb_types.proofs.Ascending.{Each-front, Has-back, Has-front, in_Each}
+use Rattle.hb_types.proofs.Ascending.{Each-append, Each-front, Has-back, Has-front, in_Each}
 use Rattle.hb_types.proofs.PutLaws.{by_test}
 use Rattle.hb_loglaws.proofs.Members.{in_append}
 use Rattle.hb_model.specs.Answers.{HasAsked, is_undoing}
@@ -148,6 +148,10 @@ module _ (ta : TransactionsAscend) (base logs : Logs) (trails : Trails) (lists :
         each_part (λ c. tx_asked c.request ≡ Some t.tx → ⊥) on.rest
         (λ f y r e q. over_none t.tx x.back f y (r ++ o.after) x.over (on.behind ∙ ap (λ l. l ++ o.after) e ∙ append_assoc f (y ∷ r) o.after)
         (front_none f (y ∷ r) (sym (ap begins_of e) ∙ back_none own on.rest (sym (ap begins_of on.parts) ∙ o.alone))) q)
+
+    -- nor is anything behind its items
+    pub behind_none : AskNone t.tx (calls_of x.back)
+    behind_none = subst (AskNone t.tx) (sym on.behind) (Each-append (λ c. tx_asked c.request ≡ Some t.tx → ⊥) on.rest o.after rest_none o.asks_none_behind)
 
     -- a Decide among its items' calls is of this transaction
     decide_within : (c : Call) (u : ℕ) (votes : List Vote) → IsIn c o.course → c.request ≡ request.Decide (record { 0 = u }) votes → u ≡ t.tx

@@ -52,7 +52,7 @@ pub record Laws : Type 0 where
 apart_first : (d e : Decided) (ds : List Decided) → Each (λ x. x.tx ≢ d.tx) ds → IsIn e ds → e.tx ≡ d.tx → ⊥
 apart_first d e ds a i q = in_Each (λ x. x.tx ≡ d.tx → ⊥) e ds i a q
 
-one_decision : (d e : Decided) (ds : List Decided) → TxApart ds → IsIn d ds → IsIn e ds → d.tx ≡ e.tx → d ≡ e
+pub one_decision : (d e : Decided) (ds : List Decided) → TxApart ds → IsIn d ds → IsIn e ds → d.tx ≡ e.tx → d ≡ e
 one_decision d e [] a i j q = absurd i
 one_decision d e (x ∷ xs) a (inl i) (inl j) q = sym i ∙ j
 one_decision d e (x ∷ xs) a (inl i) (inr j) q = absurd (apart_first x e xs a.0 j (sym q ∙ ap (λ z. z.tx) (sym i)))
@@ -131,22 +131,22 @@ turn_open n tending lines s = absurd s
 -- ---- the whole
 
 module _ (laws : Laws) (w : World) (further : List Decided) (g : Together written w) (right : AreLogs w.logs) (grows : decided w.logs ≡ decided w.base ++ further) where
-  callings : Callings w.base w.logs w.trails (map calls_of w.lists)
+  pub callings : Callings w.base w.logs w.trails (map calls_of w.lists)
   callings = record { right = g.stood.are_logs; nodes = g.nodes; merged = g.merged; obey = g.obey; operator = g.operator; system = g.system; back_ends_few = g.back_ends_few }
 
-  fes : (trail : List Labelled) × (slice_get w.trails 0 ≡ Some trail)
+  pub fes : (trail : List Labelled) × (slice_get w.trails 0 ≡ Some trail)
   fes = let n : length w.trails ≡ length w.base.servers + 1 = g.nodes.nodes in got w.trails 0 (omega (arith, n))
 
   grown : (d : Decided) → IsIn d (decided w.base) → IsIn d (decided w.logs)
   grown d i = subst (IsIn d) (sym grows) (Has-front (λ y. y ≡ d) (decided w.base) further i)
 
-  decided_so : (t n : ℕ) → Has (IsToldDecided t n) (asked_of fes.0) → IsDecidedAs w.logs t n
+  pub decided_so : (t n : ℕ) → Has (IsToldDecided t n) (asked_of fes.0) → IsDecidedAs w.logs t n
   decided_so t n h = told laws.agree w.base w.logs w.trails (map calls_of w.lists) callings fes.0 fes.1 grown t n h
 
   aborted_so : (t : ℕ) → Has (is_aborted_outcome t) (asked_of fes.0) → IsUndecided w.logs t
   aborted_so t h = aborted laws.agree w.base w.logs w.trails (map calls_of w.lists) callings fes.0 fes.1 grown t h
 
-  of_fes : (caller : ℕ) (list : List Item) (i : Item) (c : Call) → slice_get w.lists caller ≡ Some list → IsIn i list → IsIn c i.calls → IsForFes c.request
+  pub of_fes : (caller : ℕ) (list : List Item) (i : Item) (c : Call) → slice_get w.lists caller ≡ Some list → IsIn i list → IsIn c i.calls → IsForFes c.request
       → (IsTrue (tells_nothing c.answer) → ⊥)
       → IsIn (asked_by c) (asked_of fes.0)
   of_fes caller list i c here within member for_fes tells =
@@ -154,7 +154,7 @@ module _ (laws : Laws) (w : World) (further : List Decided) (g : Together writte
 
   -- ---- outcomes
 
-  committed_so : (caller : ℕ) (list : List Item) (i : Item) → slice_get w.lists caller ≡ Some list → IsIn i list → (tx n : ℕ)
+  pub committed_so : (caller : ℕ) (list : List Item) (i : Item) → slice_get w.lists caller ≡ Some list → IsIn i list → (tx n : ℕ)
       → WasAnswered tx (answer.Decided (record { 0 = n })) i.calls → IsDecidedAs w.logs tx n
   committed_so caller list i here within tx n h =
       let c = found (λ (c : Call). (c.request ≡ request.Outcome (record { 0 = tx })) × (c.answer ≡ answer.Decided (record { 0 = n }))) i.calls h in
@@ -177,10 +177,10 @@ module _ (laws : Laws) (w : World) (further : List Decided) (g : Together writte
     x : IsTxnOf w.lists t
     x = in_Each (IsTxnOf w.lists) t w.txns known g.txns.each
 
-    its_right : IsRightTxn (back_ends w.base) t
+    pub its_right : IsRightTxn (back_ends w.base) t
     its_right = in_Each (IsRightTxn (back_ends w.base)) t w.txns known g.right
 
-    its_given : IsIn t.tx (given (asked_of fes.0))
+    pub its_given : IsIn t.tx (given (asked_of fes.0))
     its_given = given_here laws.ascend w.base w.logs w.trails w.lists fes.0 callings fes.1 t x
 
     in_list : (i : Item) → IsIn i t.items → IsIn i (x.front ++ x.stretch ++ x.back)
@@ -189,7 +189,7 @@ module _ (laws : Laws) (w : World) (further : List Decided) (g : Together writte
         Has-front (λ y. y ≡ i) (x.front ++ x.stretch) x.back (Has-back (λ y. y ≡ i) x.front x.stretch s)
 
     -- a number that its Decide was answered is its own
-    answered_so : (i : Item) (n : ℕ) → IsIn i t.items → WasDecided n i.calls → IsDecidedAs w.logs t.tx n
+    pub answered_so : (i : Item) (n : ℕ) → IsIn i t.items → WasDecided n i.calls → IsDecidedAs w.logs t.tx n
     answered_so i n within h = by (decides c.0.request c.2)
       where
         c : (c : Call) × IsIn c i.calls × IsTrue (is_decide c.request) × (c.answer ≡ answer.Decided (record { 0 = n }))
@@ -203,7 +203,7 @@ module _ (laws : Laws) (w : World) (further : List Decided) (g : Together writte
             decided_so t.tx n (Has-in (IsToldDecided t.tx n) (asked_by c.0) (asked_of fes.0) member
             (record { asked = inr (q.1, q.2 ∙ ap (λ z. request.Decide (record { 0 = z }) q.1) of_t); answered = c.3 }))
 
-    number_shown : (i : Item) (r : Reply) → IsIn i t.items → IsIn r i.lines → MatchOption (number_of r) ⊤ (IsDecidedAs w.logs t.tx)
+    pub number_shown : (i : Item) (r : Reply) → IsIn i t.items → IsIn r i.lines → MatchOption (number_of r) ⊤ (IsDecidedAs w.logs t.tx)
     number_shown i r within line =
         let shows : ShowsAnswered i = in_Each ShowsAnswered i (x.front ++ x.stretch ++ x.back) (in_list i within) (each_got (λ l. Each ShowsAnswered l) w.lists (caller_of t.owner) (x.front ++ x.stretch ++ x.back) g.numbers x.parts) in
         number_so (number_of r) (λ n. WasDecided n i.calls) (IsDecidedAs w.logs t.tx) (λ n h. answered_so i n within h)
@@ -213,7 +213,7 @@ module _ (laws : Laws) (w : World) (further : List Decided) (g : Together writte
     clash : (a b c : ℕ) → a ≤ b → b < c → a ≡ c → ⊥
     clash a b c h k e = omega (arith, h, k, e)
 
-    its_calls : (d : Decided) → IsIn d (decided w.logs) → d.tx ≡ t.tx → AreDecidedCalls d (calls_of t.items)
+    pub its_calls : (d : Decided) → IsIn d (decided w.logs) → d.tx ≡ t.tx → AreDecidedCalls d (calls_of t.items)
     its_calls d i e = by (laws.agree.new_decided w.base w.logs w.trails (map calls_of w.lists) fes.0 d callings fes.1 i)
       where
         by : IsIn d (decided w.base) ⊎ IsNewDecision w.trails (map calls_of w.lists) fes.0 d → AreDecidedCalls d (calls_of t.items)
@@ -224,7 +224,7 @@ module _ (laws : Laws) (w : World) (further : List Decided) (g : Together writte
             let o = subst (λ u. (o : IsOwned w.trails (map calls_of w.lists) u) × IsDecidedCourse d o.course) e (nd.owned, nd.is_decided) in
             decided_calls laws.ascend w.base w.logs w.trails w.lists fes.0 callings fes.1 t x o.0 d e o.1
 
-    settled : (d : Decided) (k : AreDecidedCalls d (calls_of t.items)) → IsTrue (is_settled k.decide.answer)
+    pub settled : (d : Decided) (k : AreDecidedCalls d (calls_of t.items)) → IsTrue (is_settled k.decide.answer)
     settled d k = elim k.answered [ inl e ↦ ap is_settled e | inr e ↦ ap is_settled e ]
 
     -- statements

@@ -69,7 +69,7 @@ undecided_statement : (st : Statement) (calls : List Call) (lines : List Reply) 
 undecided_statement statement.Commit calls lines h d = refl
 undecided_statement st calls lines h d = absurd (h.0 d)
 
-decides_commit : (place : ℕ) (w : Doing) (calls : List Call) (lines : List Reply) → IsBoundItem (record { place = place; doing = w; calls = calls; lines = lines })
+pub decides_commit : (place : ℕ) (w : Doing) (calls : List Call) (lines : List Reply) → IsBoundItem (record { place = place; doing = w; calls = calls; lines = lines })
     → IsOfStatements w → HasAsked is_decide calls
     → w ≡ sql statement.Commit
 decides_commit place (sql st) calls lines h s d = undecided_statement st calls lines h d

@@ -6,7 +6,7 @@ use Rattle.hb_model.specs.Items.{Item, Doing, turn}
 use Rattle.hb_disks.specs.Images.{Logs}
 use Rattle.hb_law.specs.Histories.{Event, gives, shows}
 use Rattle.hb_law.specs.Transactions.{Txn, caller_of}
-use Rattle.hb_law.specs.ShownEnds.{IsDecidedAs, number_shown}
+use Rattle.hb_law.specs.ShownEnds.{IsDecidedAs, moving_number, number_shown}
 
 -- ---- ordered: in one history
 
@@ -26,13 +26,18 @@ abbrev pub Shows : ℕ → Event → Type 0
 Shows n (shows c p r) = number_shown r ≡ Some n
 Shows n _ = ⊥
 
+-- a line of pdrbal that shows this number
+abbrev pub ShowsTurn : ℕ → Event → Type 0
+ShowsTurn n (shows c p r) = moving_number r ≡ Some n
+ShowsTurn n _ = ⊥
+
 -- where a transaction counts as begun: for statements at its first line; for a turn with a line of its own
--- at the last MOVED of its work before that line, else at the giving of the work
+-- at the MOVED of the turn before it, the last of its work before that line, else at the giving of the work
 abbrev pub BeginsAt : List Event → Event → List Event → ℕ → ℕ → ℕ → Doing → Type 0
 BeginsAt front e back caller place n (turn table most) =
-    (mid : List Event) × (own : Event) × (rest : List Event) × (back ≡ mid ++ own ∷ rest) × IsLineOf caller place own × Shows n own
+    (mid : List Event) × (own : Event) × (rest : List Event) × (back ≡ mid ++ own ∷ rest) × IsLineOf caller place own × ShowsTurn n own
     × Each (λ x. ¬ (IsMovedOf caller place x)) mid
-    × (IsMovedOf caller place e ⊎ (IsGivingOf caller place e × Each (λ x. ¬ (IsMovedOf caller place x)) front))
+    × ((IsMovedOf caller place e × (¬ (ShowsTurn n e))) ⊎ (IsGivingOf caller place e × Each (λ x. ¬ (IsMovedOf caller place x)) front))
 BeginsAt front e back caller place n _ = IsLineOf caller place e × Each (λ x. ¬ (IsLineOf caller place x)) front
 
 -- a transaction that counts as begun behind a line that shows a number has a greater one
