@@ -1,8 +1,6 @@
 -- Which talks obey the callers' law: each request is permitted by the calls before it.
-use Rattle.std.specs.Prelude.{◌≡◌, ℕ, ◌+◌, ◌≤◌, Bool, true, false, IsTrue, List}
+use Rattle.std.specs.Prelude.{◌≡◌, ℕ, ◌+◌, ◌≤◌, IsTrue, List}
 use Rattle.hb_types.specs.declared.names.Owner.{Owner}
-use Rattle.hb_types.specs.declared.request.Request.{Request}
-use Rattle.hb_types.specs.declared.request.Request.TheVariants as request
 use Rattle.hb_types.specs.declared.trail.Call.{Call}
 use Rattle.hb_types.specs.Lists.{Each}
 use Rattle.hb_model.specs.declared.statement.Statement.{Statement}
