@@ -1,11 +1,12 @@
 -- A call of the coordinator, as the node's law has it.
-use Rattle.std.proofs.Common.{◌≡◌, ◌⊎◌, ℕ, ◌≤◌, List, [], ◌∷◌, ◌++◌, sym, subst, arith, inl, inr}
+use Rattle.std.proofs.Common.{◌≡◌, ◌⊎◌, ℕ, ◌≤◌, List, [], ◌∷◌, ◌++◌, refl, true, sym, subst, arith, inl, inr}
 use Rattle.std.specs.Prelude.{Option}
 use Rattle.hb_edge.specs.Fuses.{last_of}
 use Rattle.hb_edge.specs.Images.{Image}
 use Rattle.hb_edge.specs.Stops.{Leaves}
 use Rattle.hb_types.specs.declared.trail.TrailEntry.{TrailEntry}
 use Rattle.hb_runs.specs.Coordinator.{CState, stopped_at}
+use Rattle.hb_runs.specs.Kinds.{tells_nothing}
 use Rattle.hb_runs.specs.ServerRuns.{Asked}
 use Rattle.hb_node.specs.Laws.{State, serving, deciding, managing, Images, Explains as ExplainsImage, asked_in, asked_of}
 use Rattle.hb_node.proofs.Trails.{asked-append}
@@ -15,7 +16,13 @@ use Rattle.hb_coord.specs.declared.state.State.{State as CoordinatorState}
 use Rattle.hb_coord.specs.declared.state.State.TheVariants.{Down, Up, Away}
 use Rattle.hb_coord.proofs.Lawful.{fused_stands}
 use Rattle.hb_coord.proofs.Logging.{log_left}
-use Rattle.hb_front.specs.Fronting.{Explains, leaves}
+use Rattle.hb_front.specs.Fronting.{Explains, idle_answer, leaves}
+
+-- what an Abort that ends nothing is answered tells nothing
+pub idle_tells : {D : Type 0} (state : CoordinatorState D) → tells_nothing (idle_answer state) ≡ true
+idle_tells (Up running) = refl
+idle_tells (Down disk) = refl
+idle_tells Away = refl
 
 module _ {D : Type 0} (content : D → Option Image) (left : D → ℕ → Image → Type 0) (last : D → ℕ) where
   -- what explains the coordinator at a moment does at each that is not before the disk's last call

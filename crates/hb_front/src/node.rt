@@ -1,8 +1,9 @@
 // The front end as a node.
-ghost use Rattle.std.specs.Prelude.{◌≡◌, ◌≢◌, ◌≤◌, ◌-◌, ℕ, Bool, true, false, List, Some};
+ghost use Rattle.std.specs.Prelude.{◌≡◌, ◌≢◌, ◌≤◌, ◌-◌, ◌⊎◌, ◌++◌, ◌∷◌, [], ℕ, Bool, true, false, IsTrue, List, Some};
 ghost use Rattle.hb_edge.specs.Causes.{Rose};
 ghost use Rattle.hb_types.specs.Calls.{IsRequest, IsAnswer};
 ghost use Rattle.hb_types.specs.declared.names.Tx.{Tx};
+ghost use Rattle.hb_runs.specs.Kinds.{tells_nothing};
 ghost use Rattle.hb_runs.specs.ServerRuns.{Asked};
 ghost use Rattle.hb_node.specs.Laws.{State, Enters, Images, asked_of, entry_of};
 
@@ -42,6 +43,7 @@ impl<D: Disk> Node for Front<D> {
         ensures images { (origin : State) → Explains D.content D.left D.last self.old.coordinator.state origin (asked_of self.old.trail.entries) → last_in D.last self.old.coordinator.state ≤ clock.old
             → Images origin self.old.trail.entries self.new.trail.entries (entry_of request result clock.old clock.new) (left_by D.left self.old.coordinator.state) (left_by D.left self.new.coordinator.state) }
         ensures in_time { last_in D.last self.old.coordinator.state ≤ clock.old → last_in D.last self.new.coordinator.state ≤ clock.new }
+        ensures told { IsTrue (tells_nothing result) ⊎ (self.new.trail.entries ≡ self.old.trail.entries ++ entry_of request result clock.old clock.new ∷ []) }
         ensures fault { (area : Bool) → result ≡ Answer.Fault area → Rose (faults_in D.faults self.old.coordinator.state) (faults_in D.faults self.new.coordinator.state) }
         ensures count { faults_in D.faults self.old.coordinator.state ≤ faults_in D.faults self.new.coordinator.state }
         ensures clock { clock.old ≤ clock.new }

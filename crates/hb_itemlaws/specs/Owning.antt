@@ -15,13 +15,10 @@ use Rattle.hb_talk.specs.Sessions.{transaction}
 use Rattle.hb_talk.specs.Talk.{Follows}
 use Rattle.hb_planlaws.specs.Planned.{most_back_ends}
 use Rattle.hb_law.specs.Callers.{is_begun}
+pub use Rattle.hb_runs.specs.Kinds.{is_begin}
 use Rattle.hb_law.specs.Transactions.{BeginsIt, begins_of, own_items, tx_asked}
 use Rattle.hb_itemlaws.specs.Dividing.{Divided, Given, statements}
 use Rattle.hb_itemlaws.specs.GivingUp.{Closed, GivenUp, closing}
-
-abbrev pub is_begin : Request → Bool
-is_begin (request.Begin owner) = true
-is_begin _ = false
 
 -- only a Begin is answered that a transaction begun, as a system answers
 abbrev pub AreBegins : List Call → Type 0

@@ -9,6 +9,7 @@ use Rattle.hb_types.specs.declared.request.Request.TheVariants as request
 use Rattle.hb_types.specs.declared.request.Vote.{Vote}
 use Rattle.hb_types.specs.Lists.{Each, Has}
 use Rattle.hb_model.specs.Answers.{HasAsked, is_decide, is_undoing}
+pub use Rattle.hb_runs.specs.Kinds.{is_begun}
 
 -- ---- the transaction of a caller
 
@@ -31,10 +32,6 @@ current_from o (c ∷ cs) = current_from (one_more c c.answer o) cs
 
 abbrev pub current : List Call → Option Current
 current calls = current_from None calls
-
-abbrev pub is_begun : Answer → Bool
-is_begun (answer.Begun tx) = true
-is_begun _ = false
 
 -- how many transactions were begun
 abbrev pub begun_count : List Call → ℕ

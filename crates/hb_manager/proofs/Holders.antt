@@ -1,5 +1,5 @@
 -- Holders that are waited for are numbers of transactions, and so is what the manager answers.
-use Rattle.std.proofs.Common.{◌≡◌, ℕ, List, [], ◌∷◌, refl, subst, filter}
+use Rattle.std.proofs.Common.{◌≡◌, ℕ, true, List, [], ◌∷◌, refl, subst, filter}
 use mathlib.Core.Logic.{∥∥₁_elim, ∥∥₁_map}
 use Rattle.std.proofs.Props.{props}
 use Rattle.std.specs.List.{cons_option}
@@ -21,6 +21,7 @@ use Rattle.hb_types.specs.Numbers.{IsNumber}
 use Rattle.hb_types.proofs.Ascending.{Each-append}
 use Rattle.hb_types.proofs.PutLaws.{by_test}
 use Rattle.hb_runs.specs.Board.{Board as BoardState, Steps, enters, entered_before, gone, cycle, waits, cannot_wait, ready, ends, settles, halts, others, no_memory, is_live_edge, live_edges, edges_of, edge_to, ending, settling, has_entered, has_ended, waits_of, target_of, owner_in, new_board}
+use Rattle.hb_runs.specs.Kinds.{tells_nothing}
 use Rattle.hb_board.specs.Shows.{Shows}
 use Rattle.hb_board.specs.declared.board.Board.{Board}
 use Rattle.hb_manager.specs.Managing.{GoesOn, IsManagers, IsSound}
@@ -133,3 +134,15 @@ new_sound m shows = ∣ (new_board, shows, tt) ∣₁
 
 pub no_fault : (a : Answer) (area : Bool) → IsManagers a → a ≡ answer.Fault area → ⊥
 no_fault a area is e = subst IsManagers e is
+
+-- whatever it is, it tells nothing of transactions, decisions and rows
+pub manager_tells : (a : Answer) → IsManagers a → tells_nothing a ≡ true
+manager_tells (answer.NotYet target) h = refl
+manager_tells answer.Done h = refl
+manager_tells answer.NotMine h = refl
+manager_tells answer.Gone h = refl
+manager_tells (answer.Cycle edges) h = refl
+manager_tells (answer.Waiting edges) h = refl
+manager_tells answer.Ready h = refl
+manager_tells answer.NoMemory h = refl
+manager_tells _ h = absurd h

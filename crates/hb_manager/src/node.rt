@@ -1,6 +1,7 @@
 // The manager as a node.
-ghost use Rattle.std.specs.Prelude.{◌≡◌, ◌≢◌, ◌≤◌, Bool, true};
+ghost use Rattle.std.specs.Prelude.{◌≡◌, ◌≢◌, ◌≤◌, Bool, true, IsTrue};
 ghost use Rattle.hb_types.specs.Calls.{IsRequest, IsAnswer};
+ghost use Rattle.hb_runs.specs.Kinds.{tells_nothing};
 ghost use Rattle.hb_node.specs.Laws.{State, Enters, Images, asked_of, entry_of};
 ghost use Rattle.hb_manager.specs.Managing.{is_left_out as left_out};
 
@@ -50,6 +51,7 @@ impl Node for Manager {
         ensures law { (origin : State) → Explains self.old.board origin (asked_of self.old.trail.entries) → 0 ≤ clock.old → Explains self.new.board origin (asked_of self.new.trail.entries) }
         ensures images { (origin : State) → Explains self.old.board origin (asked_of self.old.trail.entries) → 0 ≤ clock.old
             → Images origin self.old.trail.entries self.new.trail.entries (entry_of request result clock.old clock.new) leaves_nothing leaves_nothing }
+        ensures told { IsTrue (tells_nothing result) }
         ensures fault { (area : Bool) → result ≡ Answer.Fault area → ⊥ }
         ensures clock { clock.new ≡ clock.old }
 

@@ -1,11 +1,13 @@
 -- What was asked of each of several nodes.
-use Rattle.std.specs.Prelude.{◌≡◌, ◌≢◌, ℕ, true, ◌⊎◌, List, [], ◌∷◌, ◌++◌, replicate}
+use Rattle.std.specs.Prelude.{◌≡◌, ◌≢◌, ℕ, true, ◌⊎◌, IsTrue, List, [], ◌∷◌, ◌++◌, replicate}
 use Rattle.hb_types.specs.declared.answer.Answer.{Answer}
 use Rattle.hb_types.specs.declared.answer.Answer.TheVariants as answer
 use Rattle.hb_types.specs.declared.names.NodeName.{NodeName}
 use Rattle.hb_types.specs.declared.request.Request.{Request}
 use Rattle.hb_types.specs.declared.request.Request.TheVariants as request
 use Rattle.hb_types.specs.Calls.{may_pass}
+use Rattle.hb_types.specs.Lists.{Each, IsIn}
+use Rattle.hb_runs.specs.Kinds.{IsOfNode, tells_nothing}
 use Rattle.hb_runs.specs.ServerRuns.{Asked}
 
 -- for each node by its number what it was asked and answered
@@ -30,9 +32,15 @@ Grows old new q a =
 abbrev pub Stays : ℕ → List Asked → List Asked → Type 0
 Stays name old new = (new ≡ old) ⊎ ((name ≡ 10) × (node : NodeName) × (a : Answer) × (new ≡ old ++ asked (request.Halted node) a ∷ []))
 
+-- The node that was asked has the call in its list, or the answer tells nothing.
 pub record OneMore (old new : Lists) (node : ℕ) (q : Request) (a : Answer) : Type 0 where
   pub asked_one : Grows (old node) (new node) q a
   pub others : (name : ℕ) → name ≢ node → Stays name (old name) (new name)
+  pub told : IsTrue (tells_nothing a) ⊎ IsIn (asked q a) (new node)
+
+-- each of these calls is answered as the node of this number answers
+abbrev pub AreOfNode : ℕ → List Asked → Type 0
+AreOfNode node list = Each (λ a. IsOfNode node a.request a.answer) list
 
 -- by calls one behind another, of each of which this is so
 pub data Onward {N : Type 0} (goes : N → N → Type 0) (from : N) : N → Type 0 where

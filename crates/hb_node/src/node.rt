@@ -1,8 +1,9 @@
 // One node.
-ghost use Rattle.std.specs.Prelude.{◌≡◌, ◌≤◌, ◌<◌, ℕ, Bool, List, ◌++◌, ◌∷◌, []};
+ghost use Rattle.std.specs.Prelude.{◌≡◌, ◌≤◌, ◌<◌, ◌⊎◌, ℕ, Bool, IsTrue, List, ◌++◌, ◌∷◌, []};
 ghost use Rattle.hb_edge.specs.Causes.{Rose};
 ghost use Rattle.hb_types.specs.declared.trail.TrailEntry.{TrailEntry};
 ghost use Rattle.hb_types.specs.Calls.{IsRequest, IsAnswer};
+ghost use Rattle.hb_runs.specs.Kinds.{tells_nothing};
 ghost use Rattle.hb_runs.specs.ServerRuns.{Asked};
 ghost use Rattle.hb_node.specs.Laws.{State, IsOfName, Runs, Enters, Images, asked_of, entry_of};
 
@@ -48,6 +49,9 @@ pub trait Node {
         ensures images { (origin : State) → explains self.old origin (asked_of (trail self.old)) → last self.old ≤ clock.old
             → Images origin (trail self.old) (trail self.new) (entry_of request result clock.old clock.new) (leaves self.old) (leaves self.new) }
         ensures in_time { last self.old ≤ clock.old → last self.new ≤ clock.new }
+
+        // An answer that its trail leaves out tells nothing of transactions, decisions and rows.
+        ensures told { IsTrue (tells_nothing result) ⊎ (trail self.new ≡ trail self.old ++ entry_of request result clock.old clock.new ∷ []) }
 
         ensures fault { (area : Bool) → result ≡ Answer.Fault area → Rose (faults self.old) (faults self.new) }
         ensures count { faults self.old ≤ faults self.new }

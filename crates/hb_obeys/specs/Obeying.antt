@@ -1,8 +1,6 @@
 -- Which talks obey the callers' law: each request is permitted by the calls before it.
-use Rattle.std.specs.Prelude.{◌≡◌, ℕ, ◌+◌, ◌≤◌, Bool, true, false, IsTrue, List}
+use Rattle.std.specs.Prelude.{◌≡◌, ℕ, ◌+◌, ◌≤◌, IsTrue, List}
 use Rattle.hb_types.specs.declared.names.Owner.{Owner}
-use Rattle.hb_types.specs.declared.request.Request.{Request}
-use Rattle.hb_types.specs.declared.request.Request.TheVariants as request
 use Rattle.hb_types.specs.declared.trail.Call.{Call}
 use Rattle.hb_types.specs.Lists.{Each}
 use Rattle.hb_model.specs.declared.statement.Statement.{Statement}
@@ -11,11 +9,8 @@ use Rattle.hb_talk.specs.Ends.{settling}
 use Rattle.hb_talk.specs.Moves.{Mover, moving}
 use Rattle.hb_talk.specs.Sessions.{transaction}
 use Rattle.hb_talk.specs.Talk.{Begins, Use, mgr}
+pub use Rattle.hb_runs.specs.Kinds.{is_begin}
 use Rattle.hb_law.specs.Callers.{begun_count, is_begun, IsNextOwner, ObeysFrom}
-
-abbrev pub is_begin : Request → Bool
-is_begin (request.Begin owner) = true
-is_begin _ = false
 
 -- a call as a system answers it: at one of its nodes, and only a Begin is answered that a transaction begun
 pub record IsOfSystem (c : Call) : Type 0 where

@@ -1,3 +1,4 @@
+mod AnswerKinds
 pub mod Going
 mod Names
 mod Reaching

@@ -1,6 +1,6 @@
 -- A call of one node in a list, and a call of the manager beside it.
 use Rattle.std.proofs.Common.{◌≡◌, ◌≢◌, ℕ, zero, suc, ◌≤◌, ◌<◌, ◌==◌, Bool, true, false, List, [], ◌∷◌, ◌++◌, ◌⊎◌, inl, inr, length, get_or, set, sym, ap, subst, refl, ◌∙◌, length-set, arith}
-use Rattle.std.specs.Prelude.{Option, Some, slice_get}
+use Rattle.std.specs.Prelude.{IsTrue, Option, Some, slice_get}
 use Rattle.std.proofs.lemmas.Bool.{cases_eq, eqb-true, ne_eqb}
 use Rattle.std.proofs.lemmas.List.{append-nil, map-append}
 use Rattle.std.proofs.lemmas.Option.{slice_get-get_or}
@@ -10,6 +10,8 @@ use Rattle.hb_types.specs.declared.names.NodeName.{NodeName}
 use Rattle.hb_types.specs.declared.request.Request.{Request}
 use Rattle.hb_edge.specs.Images.{Image}
 use Rattle.hb_types.specs.Calls.{may_pass}
+use Rattle.hb_types.specs.Lists.{IsIn}
+use Rattle.hb_runs.specs.Kinds.{tells_nothing}
 use Rattle.hb_node.specs.Laws.{State, Explains, entry_of, asked_in, asked_of, Enters, Images}
 use Rattle.hb_reach.specs.Told.{Meanings, told_of, told_at, seen, mgr}
 use Rattle.hb_reach.specs.Goes.{NodeGoes, Goes, Answered}
@@ -45,14 +47,20 @@ entered_by : (was now : List TrailEntry) (e : TrailEntry) → Enters was now e
 entered_by was now e (inl entered) = inl (ap (λ (xs : List TrailEntry). asked_of xs) entered ∙ map-append (λ (t : TrailEntry). asked_in t) was (e ∷ []))
 entered_by was now e (inr passed) = inr (passed.0, ap (λ (xs : List TrailEntry). asked_of xs) passed.1)
 
+told_by : (was now : List TrailEntry) (e : TrailEntry) → IsTrue (tells_nothing e.answer) ⊎ (now ≡ was ++ e ∷ []) → IsTrue (tells_nothing e.answer) ⊎ (asked_of now ≡ asked_of was ++ asked_in e ∷ [])
+told_by was now e (inl nothing) = inl nothing
+told_by was now e (inr entered) = inr (ap (λ (xs : List TrailEntry). asked_of xs) entered ∙ map-append (λ (t : TrailEntry). asked_in t) was (e ∷ []))
+
 pub answered_by : {N : Type 0} (n : Meanings N) (was now : N) (e : TrailEntry) → n.named now ≡ n.named was → Enters (n.trail was) (n.trail now) e
     → ((origin : State) → n.explains was origin (asked_of (n.trail was)) → n.last was ≤ e.from → n.explains now origin (asked_of (n.trail now)))
     → ((origin : State) → n.explains was origin (asked_of (n.trail was)) → n.last was ≤ e.from → Images origin (n.trail was) (n.trail now) e (n.leaves was) (n.leaves now))
     → (n.last was ≤ e.from → n.last now ≤ e.to)
+    → IsTrue (tells_nothing e.answer) ⊎ (n.trail now ≡ n.trail was ++ e ∷ [])
     → Answered e (told_of n (Some was)) (told_of n (Some now))
-answered_by {N} n was now e named entered law images in_time = record {
+answered_by {N} n was now e named entered law images in_time told = record {
   named = ap (λ (x : ℕ). Some x) named;
   entered = entered_by (n.trail was) (n.trail now) e entered;
+  told = told_by (n.trail was) (n.trail now) e told;
   in_time = in_time;
   law = law;
   within = λ origin h t. (images origin h t).within;
@@ -153,6 +161,34 @@ grows_by : (old new : List Asked) (q : Request) (a : Answer) → (new ≡ old ++
 grows_by old new q a (inl e) = grows_once old new q a e
 grows_by old new q a (inr e) = inr e
 
+in_longer : (old new : List Asked) (q : Request) (a : Answer) → new ≡ old ++ asked q a ∷ [] → IsIn (asked q a) new
+in_longer old new q a e = subst (λ (l : List Asked). IsIn (asked q a) l) (sym e) (at_end old)
+  where
+    at_end : (xs : List Asked) → IsIn (asked q a) (xs ++ asked q a ∷ [])
+    at_end [] = inl refl
+    at_end (x ∷ xs) = inr (at_end xs)
+
+told_in : (old new : List Asked) (q : Request) (a : Answer) → IsTrue (tells_nothing a) ⊎ (new ≡ old ++ asked q a ∷ []) → IsTrue (tells_nothing a) ⊎ IsIn (asked q a) new
+told_in old new q a (inl nothing) = inl nothing
+told_in old new q a (inr e) = inr (in_longer old new q a e)
+
+-- the manager's list has grown, and the others' are as they were
+pub manager_asked : {N M : Type 0} (n : Meanings N) (m : Meanings M) (were are : List N) (was now : M) (at : ℕ) (q : Request) (a : Answer) (from to : ℕ) → at ≡ mgr → are ≡ were
+    → Answered (entry_of q a from to) (told_of m (Some was)) (told_of m (Some now))
+    → OneMore (λ name. ((seen n m were was from).node name).list) (λ name. ((seen n m are now to).node name).list) at q a
+manager_asked {N} {M} n m were are was now at q a from to is same h =
+    let Q : List N → Type 0 = λ xs. OneMore (λ name. ((seen n m were was from).node name).list) (λ name. ((seen n m xs now to).node name).list) mgr q a in
+    let P : ℕ → Type 0 = λ k. OneMore (λ name. ((seen n m were was from).node name).list) (λ name. ((seen n m are now to).node name).list) k q a in
+    subst P (sym is) (subst Q (sym same) (record {
+      asked_one = grows_by (asked_of (m.trail was)) (asked_of (m.trail now)) q a h.entered;
+      others = λ name apart. by_name name apart (name == mgr) refl;
+      told = told_in (asked_of (m.trail was)) (asked_of (m.trail now)) q a h.told;
+    }))
+  where
+    by_name : (name : ℕ) → name ≢ mgr → (b : Bool) → (name == mgr) ≡ b → Stays name (told_at n m were was name b).list (told_at n m were now name b).list
+    by_name name apart true is = absurd (apart (eqb-true name mgr is))
+    by_name name apart false is = inl refl
+
 -- a node's list has grown, and the others' are as they were but for the manager's, which tells of a node that stopped
 pub server_asked : {N M : Type 0} (n : Meanings N) (m : Meanings M) (were are after : List N) (was now : M) (at : ℕ) (q : Request) (a : Answer) (from mid to : ℕ) → at ≢ mgr → after ≡ are
     → Answered (entry_of q a from mid) (told_of n (slice_get were at)) (told_of n (slice_get are at)) → ((i : ℕ) → i ≢ at → slice_get are i ≡ slice_get were i)
@@ -162,7 +198,9 @@ server_asked {N} {M} n m were are after was now at q a from mid to other same h 
     let P : Bool → Type 0 = λ b. Grows (told_at n m were was at b).list (told_at n m are now at b).list q a in
     let one : P (at == mgr) = subst P (sym (no_mgr at other)) (grows_by (told_of n (slice_get were at)).list (told_of n (slice_get are at)).list q a h.entered) in
     let Q : List N → Type 0 = λ xs. OneMore (λ name. ((seen n m were was from).node name).list) (λ name. ((seen n m xs now to).node name).list) at q a in
-    subst Q (sym same) (record { asked_one = one; others = λ name apart. by_name name apart (name == mgr) refl })
+    let T : Bool → Type 0 = λ b. IsTrue (tells_nothing a) ⊎ IsIn (asked q a) (told_at n m are now at b).list in
+    let told : T (at == mgr) = subst T (sym (no_mgr at other)) (told_in (told_of n (slice_get were at)).list (told_of n (slice_get are at)).list q a h.told) in
+    subst Q (sym same) (record { asked_one = one; others = λ name apart. by_name name apart (name == mgr) refl; told = told })
   where
     no_mgr : (k : ℕ) → k ≢ mgr → (k == mgr) ≡ false
     no_mgr k ne = ne_eqb k mgr ne

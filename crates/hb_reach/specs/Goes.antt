@@ -1,11 +1,12 @@
 -- What is so of each node by itself from one moment to a later one, whatever was asked of it between.
-use Rattle.std.specs.Prelude.{◌≡◌, ◌⊎◌, ℕ, ◌≤◌, ◌<◌, true, List, [], ◌∷◌, ◌++◌}
+use Rattle.std.specs.Prelude.{◌≡◌, ◌⊎◌, ℕ, ◌≤◌, ◌<◌, true, IsTrue, List, [], ◌∷◌, ◌++◌}
 use Rattle.hb_edge.specs.Images.{Image}
 use Rattle.hb_types.specs.declared.answer.Answer.{Answer}
 use Rattle.hb_types.specs.declared.names.NodeName.{NodeName}
 use Rattle.hb_types.specs.declared.request.Request.TheVariants as request
 use Rattle.hb_types.specs.declared.trail.TrailEntry.{TrailEntry}
 use Rattle.hb_types.specs.Calls.{may_pass}
+use Rattle.hb_runs.specs.Kinds.{tells_nothing}
 use Rattle.hb_runs.specs.ServerRuns.{Asked}
 use Rattle.hb_node.specs.Laws.{State, Explains, asked_in, entry_of}
 use Rattle.hb_reach.specs.Told.{Told, Seen}
@@ -42,6 +43,7 @@ pub record Goes (old new : Seen) : Type 0 where
 pub record Answered (e : TrailEntry) (old new : Told) : Type 0 where
   pub named : new.named ≡ old.named
   pub entered : (new.list ≡ old.list ++ asked_in e ∷ []) ⊎ ((may_pass e.request e.answer ≡ true) × (new.list ≡ old.list))
+  pub told : IsTrue (tells_nothing e.answer) ⊎ (new.list ≡ old.list ++ asked_in e ∷ [])
   pub in_time : old.last ≤ e.from → new.last ≤ e.to
   pub law : (origin : State) → old.explains origin → old.last ≤ e.from → new.explains origin
   pub within : (origin : State) → old.explains origin → old.last ≤ e.from → (m : ℕ) (log area : Image) → e.from ≤ m → new.leaves m log area

@@ -3,4 +3,4 @@
 
 mod reach;
 
-pub use reach::{MANAGER, Reach, nodes_stay};
+pub use reach::{MANAGER, Reach, lists_are_of_nodes, nodes_stay};

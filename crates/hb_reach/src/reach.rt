@@ -2,8 +2,8 @@
 ghost use Rattle.std.specs.Prelude.{◌≡◌, ◌≢◌, ◌≤◌, ◌<◌, ℕ, true, false, max, Some, length, slice_get};
 ghost use Rattle.hb_types.specs.declared.answer.Answer.TheVariants as answer;
 ghost use Rattle.hb_types.specs.Calls.{IsRequest, IsAnswer};
-ghost use Rattle.hb_node.specs.Laws.{entry_of};
-ghost use Rattle.hb_node.specs.Lists.{OneMore, Onward};
+ghost use Rattle.hb_node.specs.Laws.{State, entry_of};
+ghost use Rattle.hb_node.specs.Lists.{AreOfNode, OneMore, Onward};
 ghost use Rattle.hb_reach.specs.Told.{meanings, seen, told_of, mgr, is_stop as asks_stop, has_stopped as tells_stop};
 ghost use Rattle.hb_reach.specs.Goes.{Answered, Goes, HearsOf};
 ghost use Rattle.hb_reach.specs.Names.{AreNumbered};
@@ -153,6 +153,14 @@ impl<N: Node, M: Node> Reach<N, M> {
 pub fn nodes_stay<N: Node, M: Node>(_reach: &Reach<N, M>)
     ensures count { (from : Reaching N M) → Onward ⟦<Reach<N, M> as Nodes>⟧.goes from _reach.now → length _reach.now.nodes.items ≡ length from.nodes.items }
     ensures numbered { (from : Reaching N M) → Onward ⟦<Reach<N, M> as Nodes>⟧.goes from _reach.now → length from.nodes.items ≤ mgr → AreNumbered N.named from.nodes.items → AreNumbered N.named _reach.now.nodes.items }
+{}
+
+/// A law: where a run explains a node that stands at its number, each call in its list is answered as such a node answers.
+pub fn lists_are_of_nodes<N: Node, M: Node>(_reach: &Reach<N, M>)
+    ensures { (name : ℕ) (origin : State)
+        → ((seen (meanings N.named N.trail N.explains N.leaves N.last) (meanings M.named M.trail M.explains M.leaves M.last) _reach.now.nodes.items _reach.now.manager _reach.now.clock).node name).named ≡ Some name
+        → ((seen (meanings N.named N.trail N.explains N.leaves N.last) (meanings M.named M.trail M.explains M.leaves M.last) _reach.now.nodes.items _reach.now.manager _reach.now.clock).node name).explains origin
+        → AreOfNode name (⟦<Reach<N, M> as Nodes>⟧.lists _reach.now name) }
 {}
 
 impl<N: Node, M: Node> Nodes for Reach<N, M> {

@@ -6,3 +6,4 @@ pub mod ServerRuns
 pub mod Coordinator
 pub mod Chains
 pub mod Board
+pub mod Kinds

@@ -13,6 +13,7 @@ use Rattle.hb_types.specs.declared.request.Request.TheVariants as request
 use Rattle.hb_types.specs.declared.trail.TrailEntry.{TrailEntry}
 use Rattle.hb_types.specs.Calls.{IsAnswer, may_pass}
 use Rattle.hb_disks.specs.Points.{Point}
+use Rattle.hb_runs.specs.Kinds.{tells_nothing}
 use Rattle.hb_runs.specs.Server.{SState}
 use Rattle.hb_runs.specs.ServerRuns.{Asked}
 use Rattle.hb_node.specs.Laws.{State as NodeState, serving, deciding, managing, Images, Explains as IsExplained, asked_in, asked_of, entry_of}
@@ -30,6 +31,18 @@ passes (request.Rollback tx) answer.Down is = refl
 passes (request.Rollback tx) answer.NoBranch is = refl
 passes (request.Rollback tx) _ is = absurd (false≢true is)
 passes _ a is = absurd (false≢true is)
+
+-- a call that is passed tells nothing
+pub passed_tells : (q : Request) (a : Answer) → is_passed q a ≡ true → tells_nothing a ≡ true
+passed_tells (request.Commit tx n) answer.Down is = refl
+passed_tells (request.Commit tx n) answer.NoBranch is = refl
+passed_tells (request.Commit tx n) answer.NotPrepared is = refl
+passed_tells (request.Commit tx n) (answer.Low floor) is = refl
+passed_tells (request.Commit tx n) _ is = absurd (false≢true is)
+passed_tells (request.Rollback tx) answer.Down is = refl
+passed_tells (request.Rollback tx) answer.NoBranch is = refl
+passed_tells (request.Rollback tx) _ is = absurd (false≢true is)
+passed_tells _ a is = absurd (false≢true is)
 
 pub asked_more : (entries : List TrailEntry) (q : Request) (a : Answer) (from to : ℕ) → asked_of (entries ++ entry_of q a from to ∷ []) ≡ asked_of entries ++ asking q a ∷ []
 asked_more [] q a from to = refl

@@ -1,7 +1,8 @@
 // The server as a node.
-ghost use Rattle.std.specs.Prelude.{◌≡◌, ◌≢◌, ◌+◌, ◌≤◌, ℕ, Bool, true, false, List};
+ghost use Rattle.std.specs.Prelude.{◌≡◌, ◌≢◌, ◌+◌, ◌≤◌, ◌⊎◌, ◌++◌, ◌∷◌, [], ℕ, Bool, true, false, IsTrue, List};
 ghost use Rattle.hb_edge.specs.Causes.{Rose};
 ghost use Rattle.hb_types.specs.Calls.{IsAnswer, IsRequest};
+ghost use Rattle.hb_runs.specs.Kinds.{tells_nothing};
 ghost use Rattle.hb_runs.specs.ServerAnswers.{takes_none};
 ghost use Rattle.hb_runs.specs.ServerRuns.{Asked};
 ghost use Rattle.hb_node.specs.Laws.{State as NodeState, Enters, Images, asked_of, entry_of};
@@ -56,6 +57,9 @@ impl<D: Disk, S: Store> Node for Server<D, S> {
             → last_in (last_of D.last) self.old.state ≤ clock.old
             → Images origin self.old.trail.entries self.new.trail.entries (entry_of request result clock.old clock.new) (leaves_in D.left self.old.state) (leaves_in D.left self.new.state) }
         ensures in_time { last_in (last_of D.last) self.old.state ≤ clock.old → last_in (last_of D.last) self.new.state ≤ clock.new }
+
+        // An answer that its trail leaves out tells nothing of transactions, decisions and rows.
+        ensures told { IsTrue (tells_nothing result) ⊎ (self.new.trail.entries ≡ self.old.trail.entries ++ entry_of request result clock.old clock.new ∷ []) }
 
         ensures fault { (area : Bool) → result ≡ Answer.Fault area → Rose (faults_in (faults_of D.faults) self.old.state) (faults_in (faults_of D.faults) self.new.state) }
         ensures count { faults_in (faults_of D.faults) self.old.state ≤ faults_in (faults_of D.faults) self.new.state }

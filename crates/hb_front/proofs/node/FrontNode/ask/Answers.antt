@@ -1,8 +1,11 @@
-use Rattle.std.proofs.Common.{◌≡◌, ◌∙◌, sym, arith, rules}
+use Rattle.std.proofs.Common.{◌≡◌, ◌∙◌, ◌++◌, ◌∷◌, [], List, true, inl, inr, refl, ap, subst, sym, arith, rules}
+use Rattle.hb_types.specs.declared.answer.Answer.{Answer}
+use Rattle.hb_types.specs.declared.trail.TrailEntry.{TrailEntry}
+use Rattle.hb_runs.specs.Kinds.{tells_nothing}
 use Rattle.hb_front.proofs.Rooms.{abort_has_room, stop_has_room, abort_takes_none, stop_takes_none}
 use Rattle.hb_types.specs.declared.answer.Answer.TheVariants as answer
 use Rattle.hb_node.specs.Laws.{entry_of}
-use Rattle.hb_front.proofs.Calling.{images_still, images_as_were}
+use Rattle.hb_front.proofs.Calling.{idle_tells, images_still, images_as_were}
 use Rattle.hb_front.proofs.node.FrontNode.ask.Goals as goal
 
 pub returns-then-ends_nothing-clause-images : goal.returns-then-ends_nothing-clause-images
@@ -29,3 +32,12 @@ returns-clause-abort g c = λ tx is. c.enter.ensures.memory (abort_takes_none c.
 
 pub returns-clause-stop : goal.returns-clause-stop
 returns-clause-stop g c = λ is up. c.enter.ensures.memory (stop_takes_none c.args.request is)
+
+pub returns-then-ends_nothing-clause-told : goal.returns-then-ends_nothing-clause-told
+returns-then-ends_nothing-clause-told g c = inl (subst (λ (a : Answer). tells_nothing a ≡ true) (sym c.pass.ensures.answer) (idle_tells c.args.self.now.coordinator.state))
+
+pub returns-then-not-has_room-clause-told : goal.returns-then-not-has_room-clause-told
+returns-then-not-has_room-clause-told g c = inl refl
+
+pub returns-clause-told : goal.returns-clause-told
+returns-clause-told g c = inr (c.enter.ensures.entered ∙ ap (λ (l : List TrailEntry). l ++ entry_of c.args.request c.enter.result c.args.clock.now c.enter.new.clock ∷ []) c.has_room.ensures.entries)

@@ -1,9 +1,9 @@
 use Rattle.std.proofs.Common.{◌≢◌, ap, sym, ◌∙◌, inl, refl}
-use Rattle.std.proofs.lemmas.Bool.{eqb-false}
+use Rattle.std.proofs.lemmas.Bool.{eqb-false, eqb-true}
 use Rattle.hb_node.specs.Laws.{asked_of}
 use Rattle.hb_reach.specs.Told.{meanings}
 use Rattle.hb_reach.proofs.Going.{goes_same, goes_on}
-use Rattle.hb_reach.proofs.Reaching.{manager_goes, server_goes, server_asked, told_halted}
+use Rattle.hb_reach.proofs.Reaching.{manager_asked, manager_goes, server_goes, server_asked, told_halted}
 use Rattle.hb_reach.proofs.reach.Reach.ask_node.Goals as goal
 
 pub returns-then-eq-clause-goes : goal.returns-then-eq-clause-goes
@@ -14,6 +14,16 @@ returns-then-eq-clause-goes g c =
     let new = c.ask_manager.new.self in
     let done = c.ask_manager.ensures in
     manager_goes n m old.nodes.items new.nodes.items old.manager new.manager c.args.request c.ask_manager.result old.clock new.clock done.clock (ap (λ v. v.items) done.nodes) done.answered
+
+pub returns-then-eq-clause-one_more : goal.returns-then-eq-clause-one_more
+returns-then-eq-clause-one_more g c =
+    let n = meanings g.N.Node.named g.N.Node.trail g.N.Node.explains g.N.Node.leaves g.N.Node.last in
+    let m = meanings g.M.Node.named g.M.Node.trail g.M.Node.explains g.M.Node.leaves g.M.Node.last in
+    let old = c.args.self.now in
+    let new = c.ask_manager.new.self in
+    let done = c.ask_manager.ensures in
+    manager_asked n m old.nodes.items new.nodes.items old.manager new.manager c.args.node.0 c.args.request c.ask_manager.result old.clock new.clock (eqb-true c.args.node.0 10 (sym c.eq.ensures ∙ c.if-eq.true))
+    (ap (λ v. v.items) done.nodes) done.answered
 
 pub returns-then-at-len-clause-goes : goal.returns-then-at-len-clause-goes
 returns-then-at-len-clause-goes g c = goes_same _

@@ -1,9 +1,9 @@
-use Rattle.std.proofs.Common.{◌≡◌, ℕ, ◌-◌, ◌++◌, ◌∷◌, [], sym, subst, arith, ◌∙◌}
+use Rattle.std.proofs.Common.{◌≡◌, ℕ, ◌-◌, ◌++◌, ◌∷◌, [], inl, inr, refl, sym, subst, arith, ◌∙◌}
 use Rattle.std.proofs.Props.{props}
 use mathlib.Core.Logic.{∥∥₁_elim, ∥∥₁_map}
 use Rattle.hb_types.specs.declared.answer.Answer.TheVariants as answer
 use Rattle.hb_node.specs.Laws.{entry_of}
-use Rattle.hb_server.proofs.Entering.{none_images, entered_law, entered_images, passed_law, passed_images}
+use Rattle.hb_server.proofs.Entering.{none_images, entered_law, entered_images, passed_law, passed_images, passed_tells}
 use Rattle.hb_server.specs.Rooms.{HasEnds, HasRoomFor, entries_of}
 use Rattle.hb_server.proofs.FuseLaws.{fit_once}
 use Rattle.hb_server.proofs.Rooming.{ends_more, entered_one, had, is_stopped, none_had, room_for}
@@ -83,3 +83,13 @@ returns-then-is_passed-clause-finds g c = λ start in_time. c.advance-answer.ens
 pub returns-clause-finds : goal.returns-clause-finds
 returns-clause-finds g c = λ start in_time.
     reads_told (content_of g.D.Disk.content) (left_of g.D.Disk.left) (last_of g.D.Disk.last) g.S.Store.point_in g.S.Store.header_in c.args.self.now.state c.advance-answer.result c.enter.result c.enter.ensures.told (c.advance-answer.ensures.finds start in_time)
+
+pub returns-in-Err-clause-told : goal.returns-in-Err-clause-told
+returns-in-Err-clause-told g c = inl refl
+
+pub returns-then-is_passed-clause-told : goal.returns-then-is_passed-clause-told
+returns-then-is_passed-clause-told g c = inl (passed_tells c.args.request c.advance-answer.result (sym c.is_passed.ensures ∙ c.if-is_passed.true))
+
+pub returns-clause-told : goal.returns-clause-told
+returns-clause-told g c =
+    inr (c.enter.ensures.trail ∙ (λ i. (c.advance-answer.ensures.entries ∙ c.in-Ok.ensures.ok.1) i ++ entry_of c.args.request c.enter.result (c.moment-from.ensures i) (c.moment.ensures i) ∷ []))
