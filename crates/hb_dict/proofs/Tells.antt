@@ -1,8 +1,7 @@
 -- What rows of the dictionary tell.
-use Rattle.std.proofs.Common.{◌≡◌, ℕ, ◌/◌, Bool, true, false, cond, List, [], ◌∷◌, Some, None, pos, Result, Ok, Err, IfOk, IsErrOf, refl, sym, ◌∙◌, ap}
-use Rattle.std.specs.Prelude.{◌≢◌, ◌==◌, option_map, option_and_then, if◌then◌else◌}
+use Rattle.std.proofs.Common.{◌≡◌, ℕ, zero, suc, ◌/◌, arith, List, [], ◌∷◌, Some, None, pos, Result, Ok, Err, IfOk, IsErrOf, refl, sym, ◌∙◌, ap}
+use Rattle.std.specs.Prelude.{option_map, option_and_then, if◌then◌else◌}
 use Rattle.std.specs.Ordering.{int_eq}
-use Rattle.std.proofs.lemmas.Bool.{eqb-true}
 use Rattle.hb_types.specs.declared.entry.Entry.{Entry}
 use Rattle.hb_types.specs.declared.entry.Entry.TheVariants.{At, Moving}
 use Rattle.hb_types.specs.declared.value.Value.{Value}
@@ -33,13 +32,12 @@ area_tells bytes d number is = ap (option_and_then (area_in number)) (values_bac
 pub member_tells : (bytes : List ℕ) (area : ℕ) → IsMemberRow bytes area → option_and_then member_in (values_in bytes) ≡ Some area
 member_tells bytes area is = ap (option_and_then member_in) (values_back bytes (member_row area) is.spelled)
 
-not_zero : (b : ℕ) → b ≢ 0 → (t : Bool) → (b == 0) ≡ t → (b == 0) ≡ false
-not_zero b differs true e = absurd (differs (eqb-true b 0 e))
-not_zero b differs false e = e
-
 entry_back : (e : Entry) → AreAreas e → entry_in (entry_row e) ≡ Some e
-entry_back (At a) are = refl
-entry_back (Moving a b) are = ap (λ (t : Bool). Some (cond t (At a) (Moving a b))) (not_zero b are.2 (b == 0) refl)
+entry_back (At zero) are = absurd (omega (arith, are.0))
+entry_back (At (suc a)) are = refl
+entry_back (Moving zero b) are = absurd (omega (arith, are.0.0))
+entry_back (Moving (suc a) zero) are = absurd (omega (arith, are.1.0))
+entry_back (Moving (suc a) (suc b)) are = refl
 
 pub entry_tells : (bytes : List ℕ) (e : Entry) → IsEntryRow bytes e → entry_of (Some bytes) ≡ Some e
 entry_tells bytes e is = ap (option_and_then entry_in) (values_back bytes (entry_row e) is.spelled) ∙ entry_back e is.areas

@@ -1,53 +1,21 @@
 -- The bytes of a row give its values back.
-use Rattle.std.proofs.Common.{◌≡◌, ℕ, suc, ◌+◌, ◌<◌, true, List, [], ◌∷◌, ◌++◌, length, map, take, drop, Some, pos, negsuc, ℤ, refl, sym, ◌∙◌, ap, arith, length-append, add-one}
-use Rattle.std.specs.Prelude.{nat_le, nat_lt, IsTrue}
-use Rattle.std.specs.Int.{w32, cast_signed, cast_unsigned}
-use Rattle.std.specs.List.{AllByRecursion}
+use Rattle.std.proofs.Common.{◌≡◌, List, [], ◌∷◌, false, not, Some, refl, ◌∙◌, ap}
+use Rattle.std.specs.Prelude.{ℕ}
+use Rattle.std.specs.List.{AllByRecursion, list_any}
 use Rattle.std.proofs.lemmas.List.Elements.{recursion_from_All}
-use Rattle.std.proofs.lemmas.Bool.{le-leb, lt-ltb}
-use Rattle.std.proofs.lemmas.Int.{ints, to_z-of_z}
-use Rattle.std.proofs.lemmas.Nat.{from_le_bytes-to_le_bytes_4}
-use Rattle.std.proofs.Math.Seq.{take-append_seam, drop-append_seam}
-use mir.Val.{SFits}
 use Rattle.hb_types.specs.declared.value.Value.{Value}
 use Rattle.hb_types.specs.declared.value.Value.TheVariants.{Int, Text}
-use Rattle.hb_types.specs.Lists.{joined}
-use Rattle.hb_types.specs.Numbers.{signed_four, four, is_integer}
-use Rattle.hb_types.specs.Rows.{value_bytes, HasBytes, IsRowOf, before, integer_in, values_from, values_in}
+use Rattle.hb_types.specs.Rows.{HasBytes, IsRowOf, values_in}
+use Rattle.hb_model.specs.Refusals.{is_outside}
+use Rattle.hb_model.proofs.ValuesBack.{values_back as list_back}
 
-pub integer_fits : (z : ℤ) → IsTrue (is_integer z) → SFits w32 z
-integer_fits (pos n) t = grind (arith, ints)
-integer_fits (negsuc n) t = grind (arith, ints)
+value_inside : (v : Value) → HasBytes v → is_outside v ≡ false
+value_inside (Int n) has = ap not has
+value_inside (Text t) has = refl
 
-unsigned_small : (z : ℤ) → IsTrue (is_integer z) → cast_unsigned w32 z < 4294967296
-unsigned_small (pos n) t = let f = integer_fits (pos n) t in omega (arith, f)
-unsigned_small (negsuc n) t = let f = integer_fits (negsuc n) t in omega (arith, f)
-
-integer_back : (z : ℤ) → IsTrue (is_integer z) → integer_in (signed_four z) ≡ Int z
-integer_back z fits =
-    ap (λ (n : ℕ). Int (cast_signed w32 n)) (from_le_bytes-to_le_bytes_4 (cast_unsigned w32 z) (unsigned_small z fits)) ∙ ap Int (to_z-of_z w32 z (integer_fits z fits))
-
-four_back : (bs rest : List ℕ) (n : ℕ) (z : ℤ) → length bs ≡ 4 → integer_in bs ≡ Int z → values_from (suc n) (1 ∷ (bs ++ rest)) ≡ before (Int z) (values_from n rest)
-four_back bs rest n z four is =
-    let enough : nat_le 4 (length (bs ++ rest)) ≡ true = le-leb 4 (length (bs ++ rest)) (omega (arith, length-append bs rest, four)) in
-    let cut : take 4 (bs ++ rest) ≡ bs = ap (λ (k : ℕ). take k (bs ++ rest)) (sym four) ∙ take-append_seam bs rest in
-    let left : drop 4 (bs ++ rest) ≡ rest = ap (λ (k : ℕ). drop k (bs ++ rest)) (sym four) ∙ drop-append_seam bs rest in
-    rw (enough, cut, left, is) refl
-
-text_back : (t rest : List ℕ) (n : ℕ) → values_from (suc n) (2 ∷ (length t ∷ (t ++ rest))) ≡ before (Text t) (values_from n rest)
-text_back t rest n =
-    let enough : nat_lt (length t) (length (length t ∷ (t ++ rest))) ≡ true = lt-ltb (length t) (length (length t ∷ (t ++ rest))) (omega (arith, length-append t rest)) in
-    let cut : take (length t) (t ++ rest) ≡ t = take-append_seam t rest in
-    let left : drop (length t + 1) (length t ∷ (t ++ rest)) ≡ rest = ap (λ (k : ℕ). drop k (length t ∷ (t ++ rest))) (add-one (length t)) ∙ drop-append_seam t rest in
-    rw (enough, cut, left) refl
-
-value_back : (v : Value) (rest : List ℕ) (n : ℕ) → HasBytes v → values_from (suc n) (value_bytes v ++ rest) ≡ before v (values_from n rest)
-value_back (Int z) rest n has = four_back (signed_four z) rest n z refl (integer_back z has)
-value_back (Text t) rest n has = text_back t rest n
-
-all_back : (vs : List Value) → AllByRecursion HasBytes vs → values_from (length vs) (joined (map value_bytes vs)) ≡ Some vs
-all_back [] all = refl
-all_back (v ∷ vs) all = value_back v (joined (map value_bytes vs)) (length vs) all.0 ∙ ap (before v) (all_back vs all.1)
+all_inside : (vs : List Value) → AllByRecursion HasBytes vs → list_any is_outside vs ≡ false
+all_inside [] all = refl
+all_inside (v ∷ vs) all = rw (value_inside v all.0) (all_inside vs all.1)
 
 pub values_back : (bytes : List ℕ) (vs : List Value) → IsRowOf bytes vs → values_in bytes ≡ Some vs
-values_back bytes vs is = ap values_in is.spelled ∙ all_back vs (recursion_from_All HasBytes vs is.values_fit.fit)
+values_back bytes vs is = ap values_in is.spelled ∙ list_back vs (all_inside vs (recursion_from_All HasBytes vs is.values_fit.fit))

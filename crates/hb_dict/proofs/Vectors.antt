@@ -1,5 +1,5 @@
 -- Rows of the dictionary with their bytes.
-use Rattle.std.proofs.Common.{◌≡◌, [], ◌∷◌, refl, codes, Some}
+use Rattle.std.proofs.Common.{◌≡◌, [], ◌∷◌, refl, codes, Some, None}
 use Rattle.hb_types.specs.declared.entry.Entry.TheVariants.{At, Moving}
 use Rattle.hb_types.specs.Rows.{row_bytes}
 use Rattle.hb_model.specs.Dictionary.{area_row, member_row, entry_row}
@@ -20,6 +20,9 @@ an_entry_that_moves = refl
 
 an_entry_read : entry_of (Some (1 ∷ 2 ∷ 1 ∷ 1 ∷ 1 ∷ 0 ∷ 0 ∷ 1 ∷ 1 ∷ 2 ∷ 0 ∷ 0 ∷ [])) ≡ Some (Moving 257 513)
 an_entry_read = refl
+
+an_entry_of_ds : entry_of (Some (row_bytes (entry_row (At 0)))) ≡ None
+an_entry_of_ds = refl
 
 -- T (K INTEGER, V VARCHAR(20)) by K
 a_table : row_bytes (table_values (record { name = codes "T"; hash = 1; key = 0; columns = record { name = codes "K"; size = 0 } ∷ record { name = codes "V"; size = 20 } ∷ [] }))

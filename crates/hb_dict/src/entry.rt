@@ -24,7 +24,7 @@ pub fn entry_row(alloc: Global, entry: Entry) -> Result<Bytes, NoMemory>
     encode_row(alloc, &values)
 }
 
-// The entry that the values of a row are.
+// The entry that the values of a row are; area 0 is one of ds, and holds no group.
 fn entry_in(values: &[Value]) -> Option<Entry>
     ensures entry { IfSome result (λ e. values.now ≡ entry_values e) }
     ensures areas { IfSome result (λ e. AreAreas e) }
@@ -32,6 +32,7 @@ fn entry_in(values: &[Value]) -> Option<Entry>
 {
     match values {
         [a, b] => match area_number(a) {
+            Some(0) => None,
             Some(a) => match area_number(b) {
                 Some(0) => Some(Entry::At(a)),
                 Some(b) => Some(Entry::Moving(a, b)),

@@ -9,7 +9,7 @@ use Rattle.hb_model.specs.declared.reply.Reply.{Reply}
 use Rattle.hb_model.specs.declared.reply.Reply.TheVariants as reply
 use Rattle.hb_model.specs.declared.statement.Statement.{Statement}
 use Rattle.hb_model.specs.Answers.{HasAsked, given, is_decide, is_undoing}
-use Rattle.hb_model.specs.Asked.{AreWhereAsked, IsWhereAsked, NameAreas}
+use Rattle.hb_model.specs.Asked.{AreWhereAsked, IsWhereAsked}
 use Rattle.hb_model.specs.Faithful.{DoesRightly, Faithful}
 use Rattle.hb_model.specs.Items.{Spent}
 use Rattle.hb_model.specs.Locking.{LocksByTable}
@@ -23,11 +23,10 @@ use Rattle.hb_planlaws.specs.Planned.{PlanDoes, most_back_ends}
 use Rattle.hb_planlocks.proofs.AllLocks.{plan_locks_begun, plan_locks_behind}
 use Rattle.hb_plansources.proofs.AllSources.{plan_is_sourced, plan_written_begun}
 use Rattle.hb_plansources.proofs.Rules.{is_rows, none_shown}
-use Rattle.hb_faithful.specs.Planned.{AreAnswers, AreBeside, Closes, GivenUpIsFaithful, Opens, PlanIsFaithful, UnfinishedIsRight}
+use Rattle.hb_faithful.specs.Planned.{AreBeside, Closes, GivenUpIsFaithful, Opens, PlanIsFaithful, UnfinishedIsRight}
 use Rattle.hb_faithful.proofs.Beside.{undecided}
 use Rattle.hb_faithful.proofs.Lists.{has_split}
-use Rattle.hb_faithful.proofs.Parts.{answers_are, areas_named, did_whole, locks_whole, sourced_whole, where_asked, written_whole}
-use Rattle.hb_faithful.proofs.Spells.{answers_spelled}
+use Rattle.hb_faithful.proofs.Parts.{did_whole, locks_whole, sourced_whole, where_asked, written_whole}
 
 -- what is undone behind the plan is undone
 undone_behind : (front asked back : List Call) (r : Reply) → Closes back r → IsTrue (says_undone r) → HasAsked is_undoing (front ++ (asked ++ back))
@@ -55,7 +54,7 @@ begun_undecided st back_ends u asked within (more, r, f) h = (plan_counts st bac
 -- ---- a statement with its reply
 
 module _ (st : Statement) (rightly : PlanDoes st) (back_ends : ℕ) (u v : Use) (front asked back : List Call) (o : Result Reply Reply) (few : back_ends ≤ most_back_ends) (within : IsWithin u)
-    (follows : Follows false (plan back_ends st u) asked (o, v)) (opens : Opens front) (closes : Closes back (reply_in o)) (answers : AreAnswers (front ++ (asked ++ back))) where
+    (follows : Follows false (plan back_ends st u) asked (o, v)) (opens : Opens front) (closes : Closes back (reply_in o)) where
   abbrev whole : List Call
   whole = front ++ (asked ++ back)
 
@@ -67,10 +66,10 @@ module _ (st : Statement) (rightly : PlanDoes st) (back_ends : ℕ) (u v : Use) 
   does_some false e =
       let d = rightly back_ends u v asked o few within follows (ap not e) in (d.0, λ inside. did_whole front asked back st opens.beside closes.beside back_ends (spent_of u) d.0 (reply_in o) d.1)
 
-  sources : AreWhereAsked whole → NameAreas whole → Sourced st whole (reply_in o)
-  sources asked_there named =
+  sources : AreWhereAsked whole → Sourced st whole (reply_in o)
+  sources asked_there =
       sourced_whole front asked back st opens.beside closes.beside (reply_in o)
-      (plan_is_sourced st back_ends u v asked o follows (where_asked front asked back asked_there) (areas_named front asked back named) (answers_spelled asked (answers_are front asked back answers)))
+      (plan_is_sourced st back_ends u v asked o follows (where_asked front asked back asked_there))
 
   faithful : (full : Bool) × Faithful back_ends (spent_of u) full st whole (reply_in o)
   faithful =
@@ -87,9 +86,9 @@ module _ (st : Statement) (rightly : PlanDoes st) (back_ends : ℕ) (u v : Use) 
       )
 
 pub plan_faithful : (st : Statement) → PlanDoes st → PlanIsFaithful st
-plan_faithful st rightly back_ends u calls r few within p answers =
+plan_faithful st rightly back_ends u calls r few within p =
     let closes = subst (Closes p.back) (sym p.replies) p.closes in
-    let f = faithful st rightly back_ends u p.last p.front p.asked p.back p.outcome few within p.follows p.opens closes (subst AreAnswers p.parts answers) in
+    let f = faithful st rightly back_ends u p.last p.front p.asked p.back p.outcome few within p.follows p.opens closes in
     (f.0, subst (λ cs. Faithful back_ends (spent_of u) f.0 st cs r) (sym p.parts) (subst (Faithful back_ends (spent_of u) f.0 st (p.front ++ (p.asked ++ p.back))) p.replies f.1))
 
 -- ---- a statement that was given up
@@ -99,23 +98,23 @@ bare (reply.Rows rows) e = sym e
 bare _ e = refl
 
 module _ (st : Statement) (back_ends : ℕ) (u : Use) (front asked back : List Call) (r : Reply) (within : IsWithin u) (begins : Begins (plan back_ends st u) asked) (opens : Opens front)
-    (closes : Closes back r) (outside : IsTrue (is_outside r)) (answers : AreAnswers (front ++ (asked ++ back))) where
+    (closes : Closes back r) (outside : IsTrue (is_outside r)) where
   given_up : (spent : Spent) → Faithful back_ends spent false st (front ++ (asked ++ back)) r
   given_up spent = record {
     undecided = undecided_whole front asked back opens.beside closes.beside (begun_undecided st back_ends u asked within begins);
     does_rightly = λ inside. absurd (false≢true (ap not (sym outside) ∙ inside));
     undone = undone_behind front asked back r closes;
     locks = λ asked_there. locks_whole front asked back st opens.beside closes.beside (plan_locks_begun back_ends st u front asked opens.no_rows begins (where_asked front asked back asked_there));
-    sourced = λ asked_there named. record {
+    sourced = λ asked_there. record {
       shown = none_shown st r (given (front ++ (asked ++ back))) (λ s. bare r outside);
       written = written_whole front asked back st opens.beside closes.beside
-          (plan_written_begun back_ends st u asked begins (where_asked front asked back asked_there) (areas_named front asked back named) (answers_spelled asked (answers_are front asked back answers)));
+          (plan_written_begun back_ends st u asked begins (where_asked front asked back asked_there));
     };
   }
 
 pub given_up_faithful : (st : Statement) → GivenUpIsFaithful st
-given_up_faithful st back_ends u calls r spent within p outside answers =
-    subst (λ cs. Faithful back_ends spent false st cs r) (sym p.parts) (given_up st back_ends u p.front p.asked p.back r within p.begins p.opens p.closes outside (subst AreAnswers p.parts answers) spent)
+given_up_faithful st back_ends u calls r spent within p outside =
+    subst (λ cs. Faithful back_ends spent false st cs r) (sym p.parts) (given_up st back_ends u p.front p.asked p.back r within p.begins p.opens p.closes outside spent)
 
 -- ---- a statement with no reply yet
 

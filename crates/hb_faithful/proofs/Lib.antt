@@ -1,6 +1,5 @@
 pub mod Lists
 pub mod Beside
-pub mod Spells
 pub mod Parts
 pub mod Does
 pub mod Undone

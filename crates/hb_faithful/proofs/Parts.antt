@@ -9,9 +9,8 @@ use Rattle.hb_types.specs.declared.request.Request.{Request}
 use Rattle.hb_types.specs.declared.request.Request.TheVariants as request
 use Rattle.hb_types.specs.declared.trail.Call.{Call}
 use Rattle.hb_types.specs.declared.value.Value.{Value}
-use Rattle.hb_types.specs.Calls.{IsAnswer}
-use Rattle.hb_types.specs.Lists.{Each, EachBehind}
-use Rattle.hb_types.specs.Rows.{row_bytes}
+use Rattle.hb_types.specs.Lists.{EachBehind}
+use Rattle.hb_types.specs.Rows.{values_in}
 use Rattle.hb_types.proofs.Ascending.{Each-back, Each-front, Each-of, Has-back, Has-front}
 use Rattle.hb_model.specs.declared.reply.Reply.{Reply}
 use Rattle.hb_model.specs.declared.reply.Reply.TheVariants as reply
@@ -19,7 +18,7 @@ use Rattle.hb_model.specs.declared.statement.Statement.{Statement}
 use Rattle.hb_model.specs.declared.statement.Statement.TheVariants as statement
 use Rattle.hb_model.specs.declared.table.Table.{Table}
 use Rattle.hb_model.specs.Answers.{given, rows_answered}
-use Rattle.hb_model.specs.Asked.{AreWhereAsked, IsWhereAsked, NameAreas, NamesAreas}
+use Rattle.hb_model.specs.Asked.{AreWhereAsked, IsWhereAsked}
 use Rattle.hb_model.specs.Does.{does}
 use Rattle.hb_model.specs.Faithful.{DoesRightly}
 use Rattle.hb_model.specs.Items.{Spent}
@@ -28,7 +27,7 @@ use Rattle.hb_model.specs.Needs.{locks_of, most_locks}
 use Rattle.hb_model.specs.Rows.{assigned}
 use Rattle.hb_model.specs.Sources.{IsMadeOf, IsSelection, IsShownOf, IsUsers, RowMade, ShowsGiven, Sourced, WriteMade}
 use Rattle.hb_model.specs.System.{Sys}
-use Rattle.hb_faithful.specs.Planned.{AreAnswers, AreBeside, is_beside}
+use Rattle.hb_faithful.specs.Planned.{AreBeside, is_beside}
 use Rattle.hb_faithful.proofs.Beside.{answers_asked, lock_free, same_bytes, same_grants, same_rows, write_free}
 use Rattle.hb_faithful.proofs.Lists.{behind_append, behind_each, behind_more}
 
@@ -38,7 +37,7 @@ use Rattle.hb_faithful.proofs.Lists.{behind_append, behind_each, behind_more}
 made_more : (st : Statement) (g h : List Stored) (place : Place) (row : List ℕ) → IsMadeOf st h place row → IsMadeOf st (g ++ h) place row
 made_more (statement.Insert table values) g h place row w = w
 made_more (statement.Update table sets pred) g h place row w =
-    Has-back (λ r. (t : Table) × (old : List Value) × (r.place ≡ place) × (r.row ≡ row_bytes old) × (row ≡ row_bytes (assigned t sets old))) g h w
+    Has-back (λ r. (t : Table) × (old : List Value) × (r.place ≡ place) × (values_in r.row ≡ Some old) × (values_in row ≡ Some (assigned t sets old))) g h w
 made_more _ g h place row w = absurd w
 
 row_more : (st : Statement) (g h : List Stored) (place : Place) (row : Option (List ℕ)) → RowMade st h place row → RowMade st (g ++ h) place row
@@ -50,7 +49,7 @@ write_more st g h q = elim q as (λ x. WriteMade st h x → WriteMade st (g ++ h
 
 -- a selection of this row is shown
 abbrev IsShownBy : List Value → Stored → Type 0
-IsShownBy shown r = IsUsers r × ((row : List Value) × (positions : List ℕ) × (r.row ≡ row_bytes row) × IsSelection row positions shown)
+IsShownBy shown r = IsUsers r × ((row : List Value) × (positions : List ℕ) × (values_in r.row ≡ Some row) × IsSelection row positions shown)
 
 pub shows_more : (st : Statement) (r : Reply) (g h k : List Stored) → ShowsGiven st r h → ShowsGiven st r (g ++ (h ++ k))
 shows_more (statement.Select what table pred) (reply.Rows rows) g h k w =
@@ -73,12 +72,6 @@ module _ (front asked back : List Call) where
 
   pub where_asked : AreWhereAsked whole → AreWhereAsked asked
   where_asked h = Each-front (λ (c : Call). IsWhereAsked c.request c.answer) asked back (Each-back (λ (c : Call). IsWhereAsked c.request c.answer) front (asked ++ back) h)
-
-  pub areas_named : NameAreas whole → NameAreas asked
-  areas_named h = Each-front NamesAreas (given asked) (given back) (Each-back NamesAreas (given front) (given asked ++ given back) (subst (Each NamesAreas) given_whole h))
-
-  pub answers_are : AreAnswers whole → AreAnswers asked
-  answers_are h = let P : Call → Type 0 = λ c. IsAnswer c.answer in Each-front P asked back (Each-back P front (asked ++ back) h)
 
   module _ (st : Statement) (opens : AreBeside front) (closes : AreBeside back) where
     pub locks_whole : EachBehind (λ before c. OfLock (MayLock st before) c.node.0 c.request) front asked → LocksByTable st whole

@@ -3,7 +3,6 @@ use Rattle.std.specs.Prelude.{◌≡◌, ℕ, ◌≤◌, Bool, true, false, IsTr
 use Rattle.hb_types.specs.declared.request.Request.{Request}
 use Rattle.hb_types.specs.declared.request.Request.TheVariants as request
 use Rattle.hb_types.specs.declared.trail.Call.{Call}
-use Rattle.hb_types.specs.Calls.{IsAnswer}
 use Rattle.hb_types.specs.Lists.{Each}
 use Rattle.hb_model.specs.declared.reply.Reply.{Reply}
 use Rattle.hb_model.specs.declared.statement.Statement.{Statement}
@@ -34,10 +33,6 @@ is_beside _ = true
 abbrev pub AreBeside : List Call → Type 0
 AreBeside calls = Each (λ c. IsTrue (is_beside c.request)) calls
 
--- each answer is well formed
-abbrev pub AreAnswers : List Call → Type 0
-AreAnswers calls = Each (λ c. IsAnswer c.answer) calls
-
 -- calls that may come before the plan, and are answered no rows
 pub record Opens (calls : List Call) : Type 0 where
   pub beside : AreBeside calls
@@ -63,10 +58,10 @@ pub record FollowsPlan (back_ends : ℕ) (st : Statement) (u : Use) (calls : Lis
   pub opens : Opens front
   pub closes : Closes back r
 
--- From a use within the limits they are faithful, where the answers are well formed.
+-- From a use within the limits they are faithful.
 abbrev pub PlanIsFaithful : Statement → Type 0
 PlanIsFaithful st =
-    (back_ends : ℕ) (u : Use) (calls : List Call) (r : Reply) → back_ends ≤ most_back_ends → IsWithin u → FollowsPlan back_ends st u calls r → AreAnswers calls
+    (back_ends : ℕ) (u : Use) (calls : List Call) (r : Reply) → back_ends ≤ most_back_ends → IsWithin u → FollowsPlan back_ends st u calls r
     → (full : Bool) × Faithful back_ends (spent_of u) full st calls r
 
 -- ---- a statement that was given up, or has no reply yet
@@ -84,7 +79,7 @@ pub record BeginsPlan (back_ends : ℕ) (st : Statement) (u : Use) (calls : List
 -- With a reply from outside they are faithful, whatever was spent.
 abbrev pub GivenUpIsFaithful : Statement → Type 0
 GivenUpIsFaithful st =
-    (back_ends : ℕ) (u : Use) (calls : List Call) (r : Reply) (spent : Spent) → IsWithin u → BeginsPlan back_ends st u calls r → IsTrue (is_outside r) → AreAnswers calls
+    (back_ends : ℕ) (u : Use) (calls : List Call) (r : Reply) (spent : Spent) → IsWithin u → BeginsPlan back_ends st u calls r → IsTrue (is_outside r)
     → Faithful back_ends spent false st calls r
 
 abbrev pub UnfinishedIsRight : Statement → Type 0

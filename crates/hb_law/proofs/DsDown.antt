@@ -278,7 +278,7 @@ faithful =
       does_rightly = λ h. absurd (false≢true h);
       undone = λ h. inr (inr (inr (inl refl)));
       locks = λ asked. (tt, (tt, (tt, (tt, (tt, tt)))));
-      sourced = λ asked named. record { shown = tt; written = (tt, (tt, (tt, (tt, (tt, tt))))) };
+      sourced = λ asked. record { shown = tt; written = (tt, (tt, (tt, (tt, (tt, tt))))) };
     }
 
 right : IsRightTxn 1 began
@@ -289,7 +289,7 @@ right =
         (
           none_decides,
           (λ asked. (tt, (tt, (tt, (tt, (tt, tt)))))),
-          (record { replied = refl; of_select = λ h. absurd (false≢true h); undone = λ h. inr (inr (inr (inl refl))); sourced = λ asked named. record { shown = tt; written = (tt, (tt, (tt, (tt, (tt, tt))))) } }, tt),
+          (record { replied = refl; of_select = λ h. absurd (false≢true h); undone = λ h. inr (inr (inr (inl refl))); sourced = λ asked. record { shown = tt; written = (tt, (tt, (tt, (tt, (tt, tt))))) } }, tt),
         ),
         tt,
       );

@@ -13,7 +13,7 @@ use Rattle.hb_model.specs.declared.reply.Reply.TheVariants as reply
 use Rattle.hb_model.specs.declared.statement.Statement.{Statement}
 use Rattle.hb_model.specs.declared.statement.Statement.TheVariants as statement
 use Rattle.hb_model.specs.Answers.{AnswersOf, HasAsked, grants_in, is_decide, is_undoing, of_rows}
-use Rattle.hb_model.specs.Asked.{AreWhereAsked, NameAreas}
+use Rattle.hb_model.specs.Asked.{AreWhereAsked}
 use Rattle.hb_model.specs.Faithful.{Faithful}
 use Rattle.hb_model.specs.Families.{Family}
 use Rattle.hb_model.specs.Items.{Item, Doing, sql, turn, tending, calls_of, Spent, spending, nothing_spent}
@@ -222,7 +222,7 @@ pub record IsReplyTo (st : Statement) (calls : List Call) (r : Reply) : Type 0 w
   pub replied : IsTrue (leaves_open r || says_undone r)
   pub of_select : IsTrue (is_rows r) → IsTrue (is_select st)
   pub undone : IsTrue (says_undone r) → HasAsked is_undoing calls
-  pub sourced : AreWhereAsked calls → NameAreas calls → Sourced st calls r
+  pub sourced : AreWhereAsked calls → Sourced st calls r
 
 -- A statement decides nothing and locks by the table of locks; a COMMIT tells what was decided.
 abbrev pub IsBoundStatement : Statement → List Call → List Reply → Type 0

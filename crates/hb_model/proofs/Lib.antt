@@ -9,3 +9,4 @@ pub mod Defining
 pub mod Storing
 pub mod Choosing
 pub mod Transaction
+pub mod ValuesBack

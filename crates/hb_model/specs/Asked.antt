@@ -1,20 +1,15 @@
--- Answers as the servers of a system give them: the rows of a scan lie under its path, and entries name areas of back ends.
-use Rattle.std.specs.Prelude.{◌≡◌, ℕ, ◌≤◌, ⊤, true, List, Some}
+-- Answers as the servers of a system give them: the rows of a scan lie under its path.
+use Rattle.std.specs.Prelude.{◌≡◌, ⊤, true, List}
 use Rattle.hb_types.specs.declared.answer.Answer.{Answer}
 use Rattle.hb_types.specs.declared.answer.Answer.TheVariants as answer
 use Rattle.hb_types.specs.declared.change.Stored.{Stored}
-use Rattle.hb_types.specs.declared.entry.Entry.{Entry}
 use Rattle.hb_types.specs.declared.places.Path.{Path}
 use Rattle.hb_types.specs.declared.places.Path.TheVariants as path
 use Rattle.hb_types.specs.declared.request.Request.{Request}
 use Rattle.hb_types.specs.declared.request.Request.TheVariants as request
 use Rattle.hb_types.specs.declared.trail.Call.{Call}
-use Rattle.hb_types.specs.Groups.{route}
 use Rattle.hb_types.specs.Lists.{Each}
-use Rattle.hb_types.specs.Places.{is_under, same_space}
-use Rattle.hb_model.specs.Answers.{given}
-use Rattle.hb_model.specs.Spots.{dictionary_space, entries_space}
-use Rattle.hb_model.specs.Told.{entry_of}
+use Rattle.hb_types.specs.Places.{is_under}
 
 -- each of these rows lies under the path
 abbrev pub AreUnder : Path → List Stored → Type 0
@@ -29,11 +24,3 @@ IsWhereAsked _ _ = ⊤
 -- so for each call
 abbrev pub AreWhereAsked : List Call → Type 0
 AreWhereAsked calls = Each (λ c. IsWhereAsked c.request c.answer) calls
-
--- a row of the entries' space is an entry whose areas are no area of ds
-abbrev pub NamesAreas : Stored → Type 0
-NamesAreas r = same_space (dictionary_space entries_space) r.place.space ≡ true → (e : Entry) → entry_of (Some r.row) ≡ Some e → Each (λ area. 1 ≤ area) (route e)
-
--- so for each row that was answered
-abbrev pub NameAreas : List Call → Type 0
-NameAreas calls = Each NamesAreas (given calls)

@@ -1,5 +1,5 @@
 -- The rows of the dictionary, as values.
-use Rattle.std.specs.Prelude.{ℕ, ◌/◌, ◌==◌, if◌then◌else◌, ℤ, pos, nat_abs, Option, Some, None, List, [], ◌∷◌, ◌++◌, flat_map, map, option_map, unwrap_or}
+use Rattle.std.specs.Prelude.{ℕ, zero, suc, ◌/◌, ◌==◌, if◌then◌else◌, ℤ, pos, nat_abs, Option, Some, None, List, [], ◌∷◌, ◌++◌, flat_map, map, option_map, unwrap_or}
 use Rattle.std.specs.Ordering.{int_eq}
 use Rattle.hb_types.specs.declared.value.Value.{Value}
 use Rattle.hb_types.specs.declared.value.Value.TheVariants.{Int, Text}
@@ -84,6 +84,12 @@ abbrev pub member_in : List Value → Option ℕ
 member_in (Int area ∷ []) = Some (size_of area)
 member_in _ = None
 
+-- the entry of two areas; none of area 0, which is of ds
+abbrev pub entry_of_areas : ℕ → ℕ → Option Entry
+entry_of_areas zero b = None
+entry_of_areas (suc a) zero = Some (At (suc a))
+entry_of_areas (suc a) (suc b) = Some (Moving (suc a) (suc b))
+
 abbrev pub entry_in : List Value → Option Entry
-entry_in (Int a ∷ Int b ∷ []) = Some (if size_of b == 0 then At (size_of a) else Moving (size_of a) (size_of b))
+entry_in (Int a ∷ Int b ∷ []) = entry_of_areas (size_of a) (size_of b)
 entry_in _ = None

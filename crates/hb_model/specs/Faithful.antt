@@ -3,7 +3,7 @@ use Rattle.std.specs.Prelude.{◌≡◌, ℕ, ◌+◌, ◌≤◌, ◌<◌, Bool,
 use Rattle.hb_types.specs.declared.trail.Call.{Call}
 use Rattle.hb_model.specs.declared.reply.Reply.{Reply}
 use Rattle.hb_model.specs.declared.statement.Statement.{Statement}
-use Rattle.hb_model.specs.Asked.{AreWhereAsked, NameAreas}
+use Rattle.hb_model.specs.Asked.{AreWhereAsked}
 use Rattle.hb_model.specs.Answers.{AnswersOf, afters, bytes_in, grants_in, HasAsked, is_decide, is_undoing}
 use Rattle.hb_model.specs.Does.{does, effect, is_accepted}
 use Rattle.hb_model.specs.Families.{Family}
@@ -39,4 +39,4 @@ pub record Faithful (back_ends : ℕ) (spent : Spent) (full : Bool) (st : Statem
   pub does_rightly : IsTrue (not (is_outside r)) → DoesRightly back_ends spent full st calls r
   pub undone : IsTrue (says_undone r) → HasAsked is_undoing calls
   pub locks : AreWhereAsked calls → LocksByTable st calls
-  pub sourced : AreWhereAsked calls → NameAreas calls → Sourced st calls r
+  pub sourced : AreWhereAsked calls → Sourced st calls r

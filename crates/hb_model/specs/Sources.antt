@@ -7,7 +7,7 @@ use Rattle.hb_types.specs.declared.request.Request.TheVariants as request
 use Rattle.hb_types.specs.declared.trail.Call.{Call}
 use Rattle.hb_types.specs.declared.value.Value.{Value}
 use Rattle.hb_types.specs.Lists.{Each, EachBehind, Has}
-use Rattle.hb_types.specs.Rows.{row_bytes}
+use Rattle.hb_types.specs.Rows.{values_in}
 use Rattle.hb_model.specs.declared.reply.Reply.{Reply}
 use Rattle.hb_model.specs.declared.reply.Reply.TheVariants as reply
 use Rattle.hb_model.specs.declared.statement.Statement.{Statement}
@@ -26,9 +26,10 @@ IsSelection row positions shown = map (slice_get row) positions ≡ map Some sho
 abbrev pub IsUsers : Stored → Type 0
 IsUsers r = 1 ≤ r.place.space.area
 
--- a row that is shown is a selection, by positions, of a user row that was answered
+-- a row that is shown is a selection, by positions, of the values of a user row that was answered
 abbrev pub IsShownOf : List Stored → List Value → Type 0
-IsShownOf rows shown = Has (λ r. IsUsers r × ((row : List Value) × (positions : List ℕ) × (r.row ≡ row_bytes row) × IsSelection row positions shown)) rows
+IsShownOf rows shown =
+    Has (λ r. IsUsers r × ((row : List Value) × (positions : List ℕ) × (values_in r.row ≡ Some row) × IsSelection row positions shown)) rows
 
 -- whether a SELECT shows rows of its table, and no count or sum
 abbrev pub shows_rows : What → Bool
@@ -40,11 +41,11 @@ abbrev pub ShowsGiven : Statement → Reply → List Stored → Type 0
 ShowsGiven (statement.Select w table pred) (reply.Rows rows) given = IsTrue (shows_rows w) → Each (IsShownOf given) rows
 ShowsGiven _ _ given = ⊤
 
--- a user row that is written is the INSERT's, or made by the assignments of a row that was answered at its place
+-- the values of a user row that is written are the INSERT's, or made by the assignments of those of a row that was answered at its place
 abbrev pub IsMadeOf : Statement → List Stored → Place → List ℕ → Type 0
-IsMadeOf (statement.Insert table values) given place row = row ≡ row_bytes values
+IsMadeOf (statement.Insert table values) given place row = values_in row ≡ Some values
 IsMadeOf (statement.Update table sets pred) given place row =
-    Has (λ r. (t : Table) × (old : List Value) × (r.place ≡ place) × (r.row ≡ row_bytes old) × (row ≡ row_bytes (assigned t sets old))) given
+    Has (λ r. (t : Table) × (old : List Value) × (r.place ≡ place) × (values_in r.row ≡ Some old) × (values_in row ≡ Some (assigned t sets old))) given
 IsMadeOf _ given place row = ⊥
 
 abbrev pub RowMade : Statement → List Stored → Place → Option (List ℕ) → Type 0

@@ -18,6 +18,6 @@ found_in r = option_and_then (λ values. option_map (λ t. (nat_abs r.place.key,
 abbrev pub table_among : List Stored → List ℕ → Option Found
 table_among rows name = find (λ f. bytes_eq f.1.name name) (filter_map found_in rows)
 
--- the entry that a row tells, if there is a row
+-- the entry that a row tells, if there is a row; its areas are none of ds
 abbrev pub entry_of : Option (List ℕ) → Option Entry
 entry_of row = option_and_then entry_in (option_and_then values_in row)

@@ -127,11 +127,11 @@ small k le = grind (arith, ints)
 pub entry_back : (e : Entry) → AreAreas e → entry_of (Some (row_bytes (entry_row e))) ≡ Some e
 entry_back (At a) are = entry_tells (row_bytes (entry_row (At a))) (At a) (record {
   areas = are;
-  spelled = record { values_fit = record { few = omega arith; fit = All-from_recursion HasBytes (entry_row (At a)) (small a are, (small 0 (omega arith), tt)) }; spelled = refl };
+  spelled = record { values_fit = record { few = omega arith; fit = All-from_recursion HasBytes (entry_row (At a)) (small a are.1, (small 0 (omega arith), tt)) }; spelled = refl };
 })
 entry_back (Moving a b) are = entry_tells (row_bytes (entry_row (Moving a b))) (Moving a b) (record {
   areas = are;
-  spelled = record { values_fit = record { few = omega arith; fit = All-from_recursion HasBytes (entry_row (Moving a b)) (small a are.0, (small b are.1, tt)) }; spelled = refl };
+  spelled = record { values_fit = record { few = omega arith; fit = All-from_recursion HasBytes (entry_row (Moving a b)) (small a are.0.1, (small b are.1.1, tt)) }; spelled = refl };
 })
 
 abbrev routes : Stored → List ℕ
@@ -169,11 +169,11 @@ pub contained : (P : ℕ → Type 0) (xs : List ℕ) (a : ℕ) → Each P xs →
 contained P xs a each c = subst P c.2 (each_at P xs c.0 a each c.1)
 
 entry_sited : (members : List ℕ) (e : Entry) → Each Sited members → IsEntry members (slice_get members (length members - 1)) e → AreAreas e
-entry_sited members (At a) each is = let h = contained Sited members a each is in omega (arith, h.1)
+entry_sited members (At a) each is = let h = contained Sited members a each is in (omega (arith, h.0), omega (arith, h.1))
 entry_sited members (Moving a b) each is =
     let h = contained Sited members a each is.0 in
     let k = each_got Sited members (length members - 1) b each is.2 in
-    (omega (arith, h.1), omega (arith, k.1), λ z. omega (arith, z, k.0))
+    ((omega (arith, h.0), omega (arith, h.1)), (omega (arith, k.0), omega (arith, k.1)))
 
 pub entries_sited : (back_ends : ℕ) (s : State) → back_ends ≤ 8 → IsState back_ends s → (p : Spread) → IsIn p s.layout.spreads → Each AreAreas p.entries
 entries_sited back_ends s few is p i =

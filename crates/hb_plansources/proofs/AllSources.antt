@@ -1,6 +1,8 @@
 -- The rows of each plan come from its answers.
-use Rattle.std.proofs.Common.{◌≡◌, ℕ, ℤ, List, [], ◌∷◌, length, map, filter, Option, Some, Bool, true, false, refl, subst}
+use Rattle.std.proofs.Common.{◌≡◌, ℕ, ℤ, List, [], ◌∷◌, length, map, filter, Option, Some, None, Bool, true, false, not, refl, subst}
 use Rattle.std.specs.Prelude.{if◌then◌else◌}
+use Rattle.std.specs.List.{list_any, zip}
+use Rattle.std.specs.Ordering.{int_eq}
 use Rattle.std.specs.Option.{option_or}
 use Rattle.hb_types.specs.declared.change.Stored.{Stored}
 use Rattle.hb_types.specs.declared.entry.Entry.{Entry}
@@ -12,7 +14,7 @@ use Rattle.hb_types.specs.declared.value.Value.{Value}
 use Rattle.hb_types.specs.Groups.{group_of, route, target}
 use Rattle.hb_types.specs.Lists.{Each, EachBehind}
 use Rattle.hb_types.specs.Places.{node_of_area}
-use Rattle.hb_types.specs.Rows.{row_bytes}
+use Rattle.hb_types.specs.Rows.{row_bytes, values_in}
 use Rattle.hb_types.proofs.Ascending.{Each-in, Each-of, Has-of}
 use Rattle.hb_model.specs.declared.condition.Pred.{Pred}
 use Rattle.hb_model.specs.declared.reply.Reply.{Reply}
@@ -24,19 +26,21 @@ use Rattle.hb_model.specs.declared.statement.What.{What}
 use Rattle.hb_model.specs.declared.statement.What.TheVariants as what
 use Rattle.hb_model.specs.declared.table.Table.{Table}
 use Rattle.hb_model.specs.Answers.{given}
-use Rattle.hb_model.specs.Asked.{AreWhereAsked, NameAreas}
-use Rattle.hb_model.specs.Refusals.{first_refusal, insert_refusals, select_refusals, update_refusals}
-use Rattle.hb_model.specs.Rows.{assigned, assigning_refusal, chosen, chooses, first_some, key_of, point, shown}
+use Rattle.hb_model.specs.Asked.{AreWhereAsked}
+use Rattle.hb_model.specs.Refusals.{first_refusal, insert_refusals, is_outside, select_refusals, update_refusals, values_typed}
+use Rattle.hb_model.specs.Rows.{assigned, assigning_refusal, chosen, chooses, first_some, is_long, key_of, point, shown}
 use Rattle.hb_model.specs.Sources.{IsUsers, WriteMade}
 use Rattle.hb_model.specs.Spots.{ds, dictionary_space, entries_space, place_in, space_in}
 use Rattle.hb_model.specs.Told.{Found}
+use Rattle.hb_model.proofs.ValuesBack.{values_back, values_inside}
 use Rattle.hb_talk.specs.Plans.{Lying, areas_of_routes, delete_plan, entry_under, insert_plan, lock_plan, locking, lying_rows, putting, removing, select_plan, some_or, table_of, update_plan, walking, with_lying, writes}
 use Rattle.hb_talk.specs.PlansDefine.{plan}
 use Rattle.hb_talk.specs.Talk.{Begins, Use, Planning, ◌>>=◌, ◌>>◌, lock, pure, refuse, scan_group}
 use Rattle.hb_planlocks.proofs.Course.{Bearing, MayWrite, bearing_bind, bears_lock, bears_some_or}
-use Rattle.hb_plansources.specs.Sourcing.{AreSpelled, PlanIsSourced}
-use Rattle.hb_plansources.proofs.Defines.{add_area_bears, create_area_bears, create_table_bears, ends_bear, refuses_freely, then_bears}
+use Rattle.hb_plansources.specs.Sourcing.{PlanIsSourced}
+use Rattle.hb_plansources.proofs.Defines.{add_area_bears, create_area_bears, create_table_bears, ends_bear, refuses_freely, then_bears, unrefused_bears}
 use Rattle.hb_plansources.proofs.Gathers.{Gathered, entries_bear, entry_bears, rows_bear, table_bears, walking_bears}
+use Rattle.hb_plansources.proofs.Inside.{assigned_inside}
 use Rattle.hb_plansources.proofs.Lying.{Lies, each_filtered, each_mapped, rows_lie}
 use Rattle.hb_plansources.proofs.Rules.{Refusing, Shows, by_course, by_front, is_rows, sources}
 use Rattle.hb_plansources.proofs.Shows.{IsAnswered, shows_answered}
@@ -55,7 +59,7 @@ answered_rows : (g rows : List Stored) → Gathered g rows → Each (IsAnswered 
 answered_rows g rows e =
     each_mapped (IsAnswered g) (λ (l : Lying). l.1) (lying_rows rows)
     (Each-of (Lies g) (λ l. IsAnswered g l.1) (lying_rows rows)
-    (λ l h. Has-of (λ r. IsUsers r × (r.place ≡ l.0) × (r.row ≡ row_bytes l.1)) (λ r. IsUsers r × (r.row ≡ row_bytes l.1)) g (λ r k. (k.0, k.2)) h) (rows_lie g rows e))
+    (λ l h. Has-of (λ r. IsUsers r × (r.place ≡ l.0) × (values_in r.row ≡ Some l.1)) (λ r. IsUsers r × (values_in r.row ≡ Some l.1)) g (λ r k. (k.0, k.2)) h) (rows_lie g rows e))
 
 select_bears : (w : What) (name : List ℕ) (pred : Option Pred) (u : Use) → let st = statement.Select w name pred in Bearing (sources st) (select_plan name w pred) u [] (Shows st)
 select_bears w name pred u =
@@ -77,9 +81,9 @@ update_writes : (name : List ℕ) (sets : List Set) (pred : Option Pred) (t : Ta
 update_writes name sets pred t g ls e =
     each_mapped (MayWrite (sources (statement.Update name sets pred)) g) (λ (l : Lying). putting l.0 (assigned t sets l.1)) ls
     (Each-of (Lies g) (λ l. MayWrite (sources (statement.Update name sets pred)) g (putting l.0 (assigned t sets l.1))) ls
-    (λ l h tx users. Has-of (λ r. IsUsers r × (r.place ≡ l.0) × (r.row ≡ row_bytes l.1))
-    (λ r. (x : Table) × (old : List Value) × (r.place ≡ l.0) × (r.row ≡ row_bytes old) × (row_bytes (assigned t sets l.1) ≡ row_bytes (assigned x sets old))) g
-    (λ r k. (t, l.1, k.1, k.2, refl)) h) e)
+    (λ l h tx users. Has-of (λ r. IsUsers r × (r.place ≡ l.0) × (values_in r.row ≡ Some l.1))
+    (λ r. (x : Table) × (old : List Value) × (r.place ≡ l.0) × (values_in r.row ≡ Some old) × (values_in (row_bytes (assigned t sets l.1)) ≡ Some (assigned x sets old))) g
+    (λ r k. (t, l.1, k.1, k.2, values_back (assigned t sets l.1) (assigned_inside t sets l.1 (values_inside r.row l.1 k.2)))) h) e)
 
 update_bears : (name : List ℕ) (sets : List Set) (pred : Option Pred) (u : Use) → let st = statement.Update name sets pred in Bearing (sources st) (update_plan name sets pred) u [] (Shows st)
 update_bears name sets pred u =
@@ -112,6 +116,16 @@ delete_bears name pred u =
 
 -- ---- INSERT
 
+second_passed : (a b : Bool) (p q : Reply) (more : List (Bool × Reply)) → first_refusal ((a, p) ∷ (b, q) ∷ more) ≡ None → b ≡ false
+second_passed true b p q more e = absurd cc
+second_passed false true p q more e = absurd cc
+second_passed false false p q more e = refl
+
+accepted_inside : (t : Table) (values : List Value) → first_refusal (insert_refusals t values) ≡ None → list_any is_outside values ≡ false
+accepted_inside t values e =
+    second_passed (not (values_typed t values)) (list_any is_outside values) reply.WrongType reply.Overflow
+    ((list_any (λ p. is_long p.0.size p.1) (zip t.columns values), reply.TooLong) ∷ (list_any (λ row. int_eq (key_of t row) (key_of t values)) t.rows, reply.KeyTaken) ∷ []) e
+
 insert_bears : (name : List ℕ) (values : List Value) (u : Use) → let st = statement.Insert name values in Bearing (sources st) (insert_plan name values) u [] (Shows st)
 insert_bears name values u =
     let st = statement.Insert name values in
@@ -132,8 +146,9 @@ insert_bears name values u =
     (bears_some_or (sources st) reply.NoArea o x h (λ k e. (y : Use) → Bearing (sources st) (routed f e) y k (Shows st)) (λ s. refl)
     (λ e there y. bearing_bind (sources st) (walking mode.X f.0 (key f) (route e) []) (answering f e) y h (Shows st)
     (walking_bears st mode.X f.0 (key f) (route e) [] y h (λ k rows. (z : Use) → Bearing (sources st) (answering f e rows) z k (Shows st)) (told e there) tt
-    (λ k rows gathered z. then_bears st (late f rows) (ending f e) z k (Shows st) (refuses_freely st refl (late f rows))
-    (λ o. ends_bear st (putting (place_in (target e) f.0 (key f)) values ∷ []) reply.Inserted o k ((λ tx users. refl), tt) tt))))))))))
+    (λ k rows gathered z. unrefused_bears st (late f rows) (ending f e) z k (Shows st) (refuses_freely st refl (late f rows))
+    (λ free o. ends_bear st (putting (place_in (target e) f.0 (key f)) values ∷ []) reply.Inserted o k
+    ((λ tx users. values_back values (accepted_inside (with_lying f.1 (lying_rows rows)) values free)), tt) tt))))))))))
 
 -- ---- LOCK TABLE
 
@@ -173,8 +188,8 @@ plan_bears back_ends statement.Commit u = tt
 plan_bears back_ends statement.Rollback u = tt
 
 pub plan_is_sourced : (st : Statement) → PlanIsSourced st
-plan_is_sourced st back_ends u v calls r follows asked named spelled = by_course st (plan back_ends st) u v calls r follows asked named spelled (plan_bears back_ends st u)
+plan_is_sourced st back_ends u v calls r follows asked = by_course st (plan back_ends st) u v calls r follows asked (plan_bears back_ends st u)
 
-pub plan_written_begun : (back_ends : ℕ) (st : Statement) (u : Use) (calls : List Call) → Begins (plan back_ends st u) calls → AreWhereAsked calls → NameAreas calls → AreSpelled calls
+pub plan_written_begun : (back_ends : ℕ) (st : Statement) (u : Use) (calls : List Call) → Begins (plan back_ends st u) calls → AreWhereAsked calls
     → EachBehind (λ before c. WriteMade st (given before) c.request) [] calls
-plan_written_begun back_ends st u calls begins asked named spelled = by_front st (plan back_ends st) u calls begins asked named spelled (plan_bears back_ends st u)
+plan_written_begun back_ends st u calls begins asked = by_front st (plan back_ends st) u calls begins asked (plan_bears back_ends st u)

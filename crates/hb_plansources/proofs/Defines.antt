@@ -1,5 +1,5 @@
 -- How plans end; and the plans of CREATE RDAREA, CREATE TABLE and ADD RDAREA, which write rows of the dictionary alone.
-use Rattle.std.proofs.Common.{◌≡◌, ℕ, ◌+◌, List, [], ◌∷◌, ◌++◌, length, map, Option, Some, false, refl, sym, ◌∙◌, arith}
+use Rattle.std.proofs.Common.{◌≡◌, ℕ, ◌+◌, List, [], ◌∷◌, ◌++◌, length, map, Option, Some, None, false, refl, sym, ◌∙◌, arith}
 use Rattle.std.specs.Prelude.{take, unwrap_or}
 use Rattle.std.proofs.lemmas.Bool.{false≢true}
 use Rattle.hb_types.specs.declared.change.Change.{Change}
@@ -66,6 +66,12 @@ module _ (st : Statement) where
   pub then_bears : {A : Type 0} (o : Option Reply) (p : Planning A) (u : Use) (g : List Stored) (Q : List Stored → A → Type 0) → ((r : Reply) → o ≡ Some r → Refusing st r) → ((v : Use) → Plan p v g Q)
       → Plan (refuse o >> p) u g Q
   then_bears o p u g Q refuses q = bearing_bind (sources st) (refuse o) (λ _. p) u g Q (bears_refuse (sources st) o u g (λ h a. (v : Use) → Plan p v h Q) refuses q)
+
+  -- what follows may rest on its not being refused
+  pub unrefused_bears : {A : Type 0} (o : Option Reply) (p : Planning A) (u : Use) (g : List Stored) (Q : List Stored → A → Type 0) → ((r : Reply) → o ≡ Some r → Refusing st r)
+      → (o ≡ None → (v : Use) → Plan p v g Q) → Plan (refuse o >> p) u g Q
+  unrefused_bears None p u g Q refuses q = then_bears None p u g Q refuses (q refl)
+  unrefused_bears (Some r) p u g Q refuses q = refuses r refl
 
   pub ends_bear : (cs : List Change) (r : Reply) (u : Use) (g : List Stored) → Each (MayWrite (sources st) g) cs → Shows st g r → Plan (writes cs >> pure r) u g (Shows st)
   ends_bear cs r u g may s =

@@ -4,3 +4,4 @@ pub mod Lying
 pub mod Shows
 pub mod Defines
 pub mod AllSources
+pub mod Inside

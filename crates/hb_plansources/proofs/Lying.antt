@@ -6,7 +6,7 @@ use Rattle.std.specs.Ordering.{int_cmp, is_lt}
 use Rattle.hb_types.specs.declared.change.Stored.{Stored}
 use Rattle.hb_types.specs.declared.value.Value.{Value}
 use Rattle.hb_types.specs.Lists.{Each, Has}
-use Rattle.hb_types.specs.Rows.{row_bytes, values_in}
+use Rattle.hb_types.specs.Rows.{values_in}
 use Rattle.hb_types.proofs.Ascending.{Has-of}
 use Rattle.hb_model.specs.Sources.{IsUsers}
 use Rattle.hb_talk.specs.Plans.{Lying, by_key, lying, lying_rows}
@@ -26,15 +26,15 @@ each_mapped P f (x ∷ xs) e = (e.0, each_mapped P f xs e.1)
 
 -- values that lie where a user row with these values was answered
 abbrev pub Lies : List Stored → Lying → Type 0
-Lies g l = Has (λ r. IsUsers r × (r.place ≡ l.0) × (r.row ≡ row_bytes l.1)) g
+Lies g l = Has (λ r. IsUsers r × (r.place ≡ l.0) × (values_in r.row ≡ Some l.1)) g
 
 row_lies : (g : List Stored) (r : Stored) → IsGathered g r → (o : Option (List Value)) → values_in r.row ≡ o → (l : Lying) → option_map (λ values. (r.place, values)) o ≡ Some l → Lies g l
 row_lies g r k None is l e = cc
 row_lies g r k (Some values) is l e =
     let same : (r.place, values) ≡ l = cc in
     subst (Lies g) same
-    (Has-of (λ (y : Stored). y ≡ r) (λ y. IsUsers y × (y.place ≡ r.place) × (y.row ≡ row_bytes values)) g
-    (λ y one. subst (λ (z : Stored). IsUsers z × (z.place ≡ r.place) × (z.row ≡ row_bytes values)) (sym one) (k.0, refl, k.2 values is)) k.1)
+    (Has-of (λ (y : Stored). y ≡ r) (λ y. IsUsers y × (y.place ≡ r.place) × (values_in y.row ≡ Some values)) g
+    (λ y one. subst (λ (z : Stored). IsUsers z × (z.place ≡ r.place) × (values_in z.row ≡ Some values)) (sym one) (k.0, refl, is)) k.1)
 
 each_lies : (g rows : List Stored) → Gathered g rows → Each (Lies g) (filter_map lying rows)
 each_lies g [] e = tt

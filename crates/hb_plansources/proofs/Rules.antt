@@ -1,6 +1,6 @@
 -- What the sources of a statement's rows ask of the course of its plan.
 use Rattle.std.proofs.Common.{◌≡◌, ℕ, List, [], ◌∷◌, Result, Ok, Err, Bool, true, false, refl, sym}
-use Rattle.std.specs.Prelude.{IsTrue}
+use Rattle.std.specs.Prelude.{⊤, IsTrue}
 use Rattle.std.proofs.lemmas.Bool.{false≢true}
 use Rattle.hb_types.specs.declared.answer.Answer.{Answer}
 use Rattle.hb_types.specs.declared.answer.Answer.TheVariants as answer
@@ -14,12 +14,11 @@ use Rattle.hb_model.specs.declared.reply.Reply.TheVariants as reply
 use Rattle.hb_model.specs.declared.statement.Statement.{Statement}
 use Rattle.hb_model.specs.declared.statement.Statement.TheVariants as statement
 use Rattle.hb_model.specs.Answers.{given}
-use Rattle.hb_model.specs.Asked.{AreWhereAsked, NameAreas, NamesAreas}
+use Rattle.hb_model.specs.Asked.{AreWhereAsked}
 use Rattle.hb_model.specs.Sources.{ShowsGiven, Sourced, WriteMade}
 use Rattle.hb_talk.specs.Talk.{Begins, Follows, Planning, Use, refusal_of}
 use Rattle.hb_plancalc.specs.Counted.{reply_in}
 use Rattle.hb_planlocks.proofs.Course.{Bearing, Goes, Rule, all_told, begins_rightly, follows_rightly, is_free}
-use Rattle.hb_plansources.specs.Sourcing.{AreSpelled, IsSpelled}
 
 abbrev pub is_rows : Reply → Bool
 is_rows (reply.Rows rows) = true
@@ -44,9 +43,10 @@ none_shown (statement.Select w table pred) (reply.Rows rows) g h = λ s. absurd 
 none_shown (statement.Select w table pred) _ g h = tt
 none_shown _ r g h = tt
 
-each_both : {A : Type 0} (P Q : A → Type 0) (xs : List A) → Each P xs → Each Q xs → Each (λ x. P x × Q x) xs
-each_both P Q [] e f = tt
-each_both P Q (x ∷ xs) e f = ((e.0, f.0), each_both P Q xs e.1 f.1)
+-- nothing is asked of the rows that are answered
+none_known : (rows : List Stored) → Each (λ r. ⊤) rows
+none_known [] = tt
+none_known (r ∷ rows) = (tt, none_known rows)
 
 module _ (st : Statement) where
   -- a refusal of a SELECT shows no rows
@@ -56,7 +56,7 @@ module _ (st : Statement) where
   abbrev pub sources : Rule
   sources = record {
     May = λ g node q. WriteMade st g q;
-    Known = λ r. NamesAreas r × IsSpelled r;
+    Known = λ r. ⊤;
     Refused = Refusing;
     free = free;
     refusals = λ node a s. no_rows node a;
@@ -70,10 +70,10 @@ module _ (st : Statement) where
   abbrev pub Shows : List Stored → Reply → Type 0
   Shows g r = ShowsGiven st r g
 
-  pub by_course : (p : Planning Reply) (u v : Use) (calls : List Call) (r : Result Reply Reply) → Follows false (p u) calls (r, v) → AreWhereAsked calls → NameAreas calls → AreSpelled calls
+  pub by_course : (p : Planning Reply) (u v : Use) (calls : List Call) (r : Result Reply Reply) → Follows false (p u) calls (r, v) → AreWhereAsked calls
       → Bearing sources p u [] Shows → Sourced st calls (reply_in r)
-  by_course p u v calls r follows asked named spelled bears =
-      let told = all_told sources calls asked (each_both NamesAreas IsSpelled (given calls) named spelled) in
+  by_course p u v calls r follows asked bears =
+      let told = all_told sources calls asked (none_known (given calls)) in
       let c = follows_rightly sources false (p u) calls (r, v) follows [] (Goes sources Shows) bears told in
       record { shown = over r c.said; written = c.asked_rightly }
     where
@@ -82,7 +82,7 @@ module _ (st : Statement) where
       over (Err e) w = none_shown st e (given calls) w
 
   -- what was written by calls that begin a plan
-  pub by_front : (p : Planning Reply) (u : Use) (calls : List Call) → Begins (p u) calls → AreWhereAsked calls → NameAreas calls → AreSpelled calls → Bearing sources p u [] Shows
+  pub by_front : (p : Planning Reply) (u : Use) (calls : List Call) → Begins (p u) calls → AreWhereAsked calls → Bearing sources p u [] Shows
       → EachBehind (λ before c. WriteMade st (given before) c.request) [] calls
-  by_front p u calls begins asked named spelled bears =
-      begins_rightly sources (p u) calls begins [] (Goes sources Shows) bears (all_told sources calls asked (each_both NamesAreas IsSpelled (given calls) named spelled))
+  by_front p u calls begins asked bears =
+      begins_rightly sources (p u) calls begins [] (Goes sources Shows) bears (all_told sources calls asked (none_known (given calls)))

@@ -7,7 +7,7 @@ use Rattle.hb_types.specs.declared.change.Stored.{Stored}
 use Rattle.hb_types.specs.declared.value.Column.{Column}
 use Rattle.hb_types.specs.declared.value.Value.{Value}
 use Rattle.hb_types.specs.Lists.{Each, Has}
-use Rattle.hb_types.specs.Rows.{row_bytes}
+use Rattle.hb_types.specs.Rows.{values_in}
 use Rattle.hb_types.proofs.Ascending.{Each-of, Has-of}
 use Rattle.hb_model.specs.declared.statement.What.{What}
 use Rattle.hb_model.specs.declared.statement.What.TheVariants as what
@@ -19,7 +19,7 @@ use Rattle.hb_plansources.proofs.Lying.{each_mapped}
 
 -- values of a user row that was answered
 abbrev pub IsAnswered : List Stored → List Value → Type 0
-IsAnswered g row = Has (λ r. IsUsers r × (r.row ≡ row_bytes row)) g
+IsAnswered g row = Has (λ r. IsUsers r × (values_in r.row ≡ Some row)) g
 
 -- a selection of a row
 abbrev Selection : List Value → List Value → Type 0
@@ -27,7 +27,7 @@ Selection row shown = (positions : List ℕ) × IsSelection row positions shown
 
 selected : (g : List Stored) (row shown : List Value) → Selection row shown → IsAnswered g row → IsShownOf g shown
 selected g row shown s h =
-    Has-of (λ r. IsUsers r × (r.row ≡ row_bytes row)) (λ r. IsUsers r × ((row : List Value) × (positions : List ℕ) × (r.row ≡ row_bytes row) × IsSelection row positions shown)) g
+    Has-of (λ r. IsUsers r × (values_in r.row ≡ Some row)) (λ r. IsUsers r × ((row : List Value) × (positions : List ℕ) × (values_in r.row ≡ Some row) × IsSelection row positions shown)) g
     (λ r k. (k.0, (row, s.0, k.1, s.1))) h
 
 -- ---- the whole row

@@ -52,7 +52,7 @@ use Rattle.hb_runs.specs.ServerRuns as runs
 use Rattle.hb_talk.specs.Moves.{fresh}
 use Rattle.hb_talk.specs.PlansDefine.{plan}
 use Rattle.hb_talk.specs.Talk.{Follows, Use, asked, ends}
-use Rattle.hb_faithful.specs.Planned.{AreAnswers, FollowsPlan, Opens}
+use Rattle.hb_faithful.specs.Planned.{FollowsPlan, Opens}
 use Rattle.hb_faithful.proofs.Does.{plan_does}
 use Rattle.hb_faithful.proofs.Faithfuls.{plan_faithful}
 use Rattle.hb_law.specs.Answering.{IsOfSystem, tells_nothing}
@@ -550,15 +550,9 @@ follows_plan =
       closes = record { beside = tt; undone = λ h. no h };
     }
 
-nothing_there : {A : Type 0} (P : A → Type 0) → All P []
-nothing_there P k d below = absurd (omega arith)
-
-well_formed : AreAnswers made_by
-well_formed = ((lit≤ tt, lit≤ tt), (tt, (tt, (tt, (nothing_there _, (tt, tt))))))
-
 -- by the law of plans, whatever the rows are that these are the answers of
 faithful : (full : Bool) × Faithful 1 nothing_spent full create made_by reply.Created
-faithful = plan_faithful create (plan_does create refl) 1 (fresh 1) made_by reply.Created (lit≤ tt) within follows_plan well_formed
+faithful = plan_faithful create (plan_does create refl) 1 (fresh 1) made_by reply.Created (lit≤ tt) within follows_plan
 
 right : IsRightTxn 1 began
 right =
