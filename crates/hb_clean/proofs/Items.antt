@@ -24,12 +24,11 @@ use Rattle.hb_model.specs.Answers.{given, is_of_rows, of_rows, rows_answered}
 use Rattle.hb_model.specs.Asked.{AreWhereAsked, IsWhereAsked}
 use Rattle.hb_model.specs.Items.{Doing, Item, calls_of, sql, tending, turn}
 use Rattle.hb_model.specs.Rows.{assigned}
-use Rattle.hb_model.specs.Sources.{IsSelection, IsUsers}
+use Rattle.hb_model.specs.Sources.{IsMadeOf, IsSelection, IsShownOf, IsUsers, RowMade, Sourced, WriteMade}
 use Rattle.hb_disks.specs.Images.{Logs}
 use Rattle.hb_law.specs.Clean.{IsClean, IsCleanly, RowsClean, inserted, made, stood}
 use Rattle.hb_law.specs.Transactions.{AllAnswered, CommitTells, IsBoundItem, IsBoundStatement, IsOfStatements, IsReplyTo, IsTurning, TendingTells, is_of_turn, is_rows, is_select, reply_in}
 use Rattle.hb_whose.proofs.Parts.{some_is, stands_at}
-use Rattle.hb_clean.specs.Sources.{IsMadeOf, IsShownOf, IsSourced, RowMade, Sourced, WriteMade}
 use Rattle.hb_clean.proofs.Reading.{Wrote}
 
 -- ---- words on statements and replies
@@ -162,8 +161,7 @@ module _ (base logs : Logs) where
 
     -- ---- one item
 
-    module _ (own : List Item) (past : List Call) (i : Item) (more : List Call) (e : all ≡ past ++ (i.calls ++ more)) (bound : IsBoundItem i) (sourced : IsSourced i)
-        (kind : IsOfStatements i.doing) (w : Each (WroteClean own) past) where
+    module _ (own : List Item) (past : List Call) (i : Item) (more : List Call) (e : all ≡ past ++ (i.calls ++ more)) (bound : IsBoundItem i) (kind : IsOfStatements i.doing) (w : Each (WroteClean own) past) where
       abbrev doing_so : Doing → Item
       doing_so d = record { place = i.place; doing = d; calls = i.calls; lines = i.lines }
 
@@ -176,7 +174,9 @@ module _ (base logs : Logs) where
       start = e ∙ ap (λ l. l ++ (i.calls ++ more)) (sym (append-nil past))
 
       line_sourced : (st : Statement) → i.doing ≡ sql st → st ≢ statement.Commit → (r : Reply) → IsIn r i.lines → Sourced st i.calls r
-      line_sourced st d n r m = in_Each (λ r. AreWhereAsked i.calls → Sourced st i.calls r) r i.lines m (sourced st d n) here_asked
+      line_sourced st d n r m =
+          let b : IsBoundStatement st i.calls i.lines = subst (λ z. IsBoundItem (doing_so z)) d bound in
+          (in_Each (IsReplyTo st i.calls) r i.lines m (bound_other st i.calls i.lines n b)).sourced here_asked
 
       writes_of_it : (then : List Item) (st : Statement) → i.doing ≡ sql st → IsIn i then ⊎ IsTrue (is_select st) → Each (WroteClean then) past → (r : Reply) → Sourced st i.calls r
           → Each (WroteClean then) (past ++ i.calls)
@@ -248,15 +248,15 @@ module _ (base logs : Logs) where
 
     -- ---- all items
 
-    pub all_clean : (own : List Item) (past : List Call) (is : List Item) → all ≡ past ++ calls_of is → Each IsBoundItem is → Each IsSourced is → Each (λ i. IsOfStatements i.doing) is → AllAnswered is
+    pub all_clean : (own : List Item) (past : List Call) (is : List Item) → all ≡ past ++ calls_of is → Each IsBoundItem is → Each (λ i. IsOfStatements i.doing) is → AllAnswered is
         → Each (WroteClean own) past
         → EachBehind (λ own i. Each (RowsClean base logs own i.doing) i.lines) own is
-    all_clean own past [] e b s k a w = tt
-    all_clean own past (i ∷ []) e b s k a w = (shows own past i [] e b.0 s.0 k.0 w a, tt)
-    all_clean own past (i ∷ j ∷ is) e b s k a w = (
-      shows own past i (calls_of (j ∷ is)) e b.0 s.0 k.0 w (at_most a.0),
-      all_clean (own ++ i ∷ []) (past ++ i.calls) (j ∷ is) (e ∙ sym (append_assoc past i.calls (calls_of (j ∷ is)))) b.1 s.1 k.1 a.1
-          (wrote own past i (calls_of (j ∷ is)) e b.0 s.0 k.0 w a.0),
+    all_clean own past [] e b k a w = tt
+    all_clean own past (i ∷ []) e b k a w = (shows own past i [] e b.0 k.0 w a, tt)
+    all_clean own past (i ∷ j ∷ is) e b k a w = (
+      shows own past i (calls_of (j ∷ is)) e b.0 k.0 w (at_most a.0),
+      all_clean (own ++ i ∷ []) (past ++ i.calls) (j ∷ is) (e ∙ sym (append_assoc past i.calls (calls_of (j ∷ is)))) b.1 k.1 a.1
+          (wrote own past i (calls_of (j ∷ is)) e b.0 k.0 w a.0),
     )
       where
         at_most : length i.lines ≡ 1 → length i.lines ≤ 1

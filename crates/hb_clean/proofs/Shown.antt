@@ -28,7 +28,6 @@ use Rattle.hb_whose.proofs.Parts.{each_part, is_there, none_some, some_is}
 use Rattle.hb_whose.proofs.Trailing.{got}
 use Rattle.hb_steps.proofs.RunThroughs.{InOf, first, in_of, second}
 use Rattle.hb_ends.proofs.Belonging as belonging
-use Rattle.hb_clean.specs.Sources.{IsSourced}
 use Rattle.hb_clean.proofs.Fronts.{state_at}
 use Rattle.hb_clean.proofs.Items.{StoodClean, all_clean, turn_clean}
 use Rattle.hb_clean.proofs.Reading.{IsScan, StoodIn, Wrote, answered, given_came, is_where_asked, scan_of, scan_only, under_of}
@@ -41,7 +40,7 @@ pub record Laws : Type 0 where
   pub news : GivenAreNew
   pub reading : reading.Laws
 
-module _ (laws : Laws) (w : World) (sourced : Each (λ t. Each IsSourced t.items) w.txns) (g : Together written w) (right : AreLogs w.logs) (chained : Chained w) where
+module _ (laws : Laws) (w : World) (g : Together written w) (right : AreLogs w.logs) (chained : Chained w) where
   callings : Callings w.base w.logs w.trails (map calls_of w.lists)
   callings =
       record { right = g.stood.are_logs; nodes = g.nodes; merged = g.merged; obey = g.obey; operator = g.operator; system = g.system; back_ends_few = g.back_ends_few }
@@ -64,9 +63,6 @@ module _ (laws : Laws) (w : World) (sourced : Each (λ t. Each IsSourced t.items
 
     its_right : IsRightTxn (back_ends w.base) t
     its_right = in_Each (IsRightTxn (back_ends w.base)) t w.txns known g.right
-
-    its_sourced : Each IsSourced t.items
-    its_sourced = in_Each (λ t. Each IsSourced t.items) t w.txns known sourced
 
     its_given : IsIn t.tx (given (asked_of fes.0))
     its_given = belonging.given_here laws.ascend w.base w.logs w.trails w.lists fes.0 callings fes.1 t x
@@ -170,7 +166,7 @@ module _ (laws : Laws) (w : World) (sourced : Each (λ t. Each IsSourced t.items
     shows_clean = by its_right.kinds
       where
         by : (Each (λ i. IsOfStatements i.doing) t.items × AllAnswered t.items) ⊎ ((i : Item) × (t.items ≡ i ∷ []) × IsTurning i.doing) → ShowsClean w.base w.logs t
-        by (inl k) = all_clean w.base w.logs (calls_of t.items) asked came [] [] t.items refl its_right.bound its_sourced k.0 k.1 tt
+        by (inl k) = all_clean w.base w.logs (calls_of t.items) asked came [] [] t.items refl its_right.bound k.0 k.1 tt
         by (inr k) =
             subst (EachBehind (λ own i. Each (RowsClean w.base w.logs own i.doing) i.lines) []) (sym k.1)
             (turn_clean w.base w.logs k.0 k.2 (subst (Each IsBoundItem) k.1 its_right.bound).0, tt)

@@ -1,5 +1,5 @@
 // The law of clean rows.
-ghost use Rattle.hb_clean.specs.Clean.{RowsAreCleanBy};
+ghost use Rattle.hb_parts.specs.Whole.{RowsAreClean};
 
 use hb_coordlaws::transactions_ascend;
 use hb_readlaws::{
@@ -11,7 +11,7 @@ use hb_whose::{given_are_new, one_owner};
 
 /// Each row that is shown is a selection of one that stood in some table, or that its transaction made itself.
 pub fn rows_are_clean()
-    ensures { RowsAreCleanBy }
+    ensures { RowsAreClean }
 {
     transactions_ascend();
     one_owner();
