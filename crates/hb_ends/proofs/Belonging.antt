@@ -114,10 +114,10 @@ module _ (ta : TransactionsAscend) (base logs : Logs) (trails : Trails) (lists :
   pub given_here : IsIn t.tx (given (asked_of fes))
   given_here = begun_given ta base logs trails (map calls_of lists) k fes at (caller_of t.owner) all t.tx its_list begun_here
 
-  items_are : calls_of t.items ≡ pre ++ b ∷ own
+  pub items_are : calls_of t.items ≡ pre ++ b ∷ own
   items_are = ap calls_of x.items ∙ ap (λ l. l ++ calls_of x.others) x.begins.parts ∙ append_assoc pre (b ∷ x.begins.more) (calls_of x.others)
 
-  b_begins : IsTrue (is_begin b.request)
+  pub b_begins : IsTrue (is_begin b.request)
   b_begins =
       let member : IsIn b all = subst (IsIn b) (sym list_is) (is_there b (calls_of x.front ++ pre) (own ++ behind)) in
       ((in_Each IsOfSystem b all member (each_got (λ l. Each IsOfSystem l) (map calls_of lists) (caller_of t.owner) all k.system its_list)).begins (begins_some b.answer t.tx x.begins.begun)).1
@@ -140,7 +140,7 @@ module _ (ta : TransactionsAscend) (base logs : Logs) (trails : Trails) (lists :
         (subst (λ l. Ascends nat_cmp (begins_of l)) o.parts (begins_ascend ta base logs trails (map calls_of lists) k fes at o.caller o.list o.its_list))
         (sym o.parts ∙ same_list ∙ list_is)
 
-    on : GoesOn o.course o.after own behind
+    pub on : GoesOn o.course o.after own behind
     on = goes_on o.course o.after own behind tails own_none o.next
 
     rest_none : AskNone t.tx on.rest
