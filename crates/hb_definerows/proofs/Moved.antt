@@ -26,8 +26,8 @@ abbrev pub is_put : Stored → Bool
 is_put r = unwrap_or (option_map is_moving (entry_of (Some r.row))) false
 
 are_areas : (e : Entry) → AreSmall e → IsMarked e → AreAreas e
-are_areas (At a) small mark = small
-are_areas (Moving a b) small mark = (small.0, small.1, mark)
+are_areas (At a) small mark = (mark, small)
+are_areas (Moving a b) small mark = ((mark.0, small.0), (mark.1, small.1))
 
 puts_moving : (table group : ℕ) (e : Entry) → AreSmall e → IsMarked e → is_put (entry_at table group e) ≡ is_moving e
 puts_moving table group e small mark =

@@ -9,7 +9,7 @@ use Rattle.std.proofs.lemmas.List.FromFn.{length-range_with_len, get_or-range_wi
 use Rattle.std.proofs.lemmas.List.Kept.{AllPairs-cons}
 use Rattle.hb_types.specs.declared.entry.Entry.{Entry}
 use Rattle.hb_types.specs.declared.entry.Entry.TheVariants.{At, Moving}
-use Rattle.hb_types.specs.Groups.{quota}
+use Rattle.hb_types.specs.Groups.{quota, target}
 use Rattle.hb_types.specs.Lists.{Each, has_twins}
 use Rattle.hb_model.specs.declared.reply.Reply.TheVariants as reply
 use Rattle.hb_model.specs.Refusals.{first_refusal}
@@ -39,10 +39,14 @@ differ (m ∷ ms) is =
 
 one_placed : (ms : List ℕ) (e : Entry) → is_placed ms e ≡ true → IsPlaced ms e
 one_placed ms (At a) is =
-    let any = Any-from_list_any (λ (m : ℕ). a == m) ms is in
+    let any = Any-from_list_any (λ (m : ℕ). a == m) ms (both (nat_le 1 a) _ is).1 in
     let same : any.1 ≡ a = sym (eqb-true a any.1 any.4) in
     (any.0, any.2, subst (λ (x : ℕ). get_or ms any.0 x ≡ x) same any.3)
 one_placed ms (Moving a b) is = true≢false (sym is)
+
+one_held : (ms : List ℕ) (e : Entry) → is_placed ms e ≡ true → IsMarked e
+one_held ms (At a) is = leb-true 1 a (both (nat_le 1 a) _ is).0
+one_held ms (Moving a b) is = absurd (true≢false (sym is))
 
 pub record Spreads (ms : List ℕ) (es : List Entry) : Type 0 where
   pub full : length es ≡ 1024
@@ -50,6 +54,7 @@ pub record Spreads (ms : List ℕ) (es : List Entry) : Type 0 where
   pub few : length ms ≤ 15
   pub distinct : AllPairs (λ (a b : ℕ). a ≢ b) ms
   pub placed : All (IsPlaced ms) es
+  pub held : All IsMarked es
   pub enough : (i : ℕ) → i < length ms → quota i (length ms + 1) ≤ count_at es (slice_index ms i)
 
 unless_twins : (b : Bool) → not b ≡ true → b ≡ false
@@ -76,27 +81,29 @@ spreads ms es is =
       few = leb-true _ _ c.0;
       distinct = differ ms (unless_twins _ d.0);
       placed = λ k x lt. one_placed ms (get_or es k x) (all_at (is_placed ms) es k x e.0 lt);
+      held = λ k x lt. one_held ms (get_or es k x) (all_at (is_placed ms) es k x e.0 lt);
       enough = enough_at ms es e.1;
     }
 
 pub unused : (ms : List ℕ) (area : ℕ) → list_any (λ (m : ℕ). area == m) ms ≡ false → ¬ Contains ms area
 unused ms area is = λ there. none_like area ms is there.0 area there.1 (sym there.2)
 
-one_marked : (ms : List ℕ) (added : ℕ) → added ≢ 0 → (x y : Entry) → StaysOrMoves added x y → IsPlaced ms x → IsMarked y
-one_marked ms added some (At a) y (inl same) placed = subst IsMarked (sym same) tt
-one_marked ms added some (Moving a b) y (inl same) placed = absurd placed
-one_marked ms added some x y (inr moved) placed = subst IsMarked (sym moved) some
+target_held : (x : Entry) → IsMarked x → 1 ≤ target x
+target_held (At a) m = m
+target_held (Moving a b) m = m.1
 
-all_marked : (ms : List ℕ) (added : ℕ) → added ≢ 0 → (old new : List Entry) → AllZip (StaysOrMoves added) old new → AllByRecursion (IsPlaced ms) old → Each IsMarked new
-all_marked ms added some [] [] zip placed = tt
-all_marked ms added some [] (y ∷ ys) zip placed = absurd zip
-all_marked ms added some (x ∷ xs) [] zip placed = tt
-all_marked ms added some (x ∷ xs) (y ∷ ys) zip placed = (one_marked ms added some x y zip.0 placed.0, all_marked ms added some xs ys zip.1 placed.1)
+one_marked : (added : ℕ) → 1 ≤ added → (x y : Entry) → StaysOrMoves added x y → IsMarked x → IsMarked y
+one_marked added some x y (inl same) m = subst IsMarked (sym same) m
+one_marked added some x y (inr moved) m = subst IsMarked (sym moved) (target_held x m, some)
 
-pub marked : (ms : List ℕ) (added : ℕ) (old new : List Entry) → 256 ≤ added → AllZip (StaysOrMoves added) old new → All (IsPlaced ms) old → Each IsMarked new
-marked ms added old new sited zip placed =
-    let some : added ≢ 0 = λ none. omega (arith, none, sited) in
-    all_marked ms added some old new zip (recursion_from_All (IsPlaced ms) old placed)
+all_marked : (added : ℕ) → 1 ≤ added → (old new : List Entry) → AllZip (StaysOrMoves added) old new → AllByRecursion IsMarked old → Each IsMarked new
+all_marked added some [] [] zip m = tt
+all_marked added some [] (y ∷ ys) zip m = absurd zip
+all_marked added some (x ∷ xs) [] zip m = tt
+all_marked added some (x ∷ xs) (y ∷ ys) zip m = (one_marked added some x y zip.0 m.0, all_marked added some xs ys zip.1 m.1)
+
+pub marked : (added : ℕ) (old new : List Entry) → 256 ≤ added → AllZip (StaysOrMoves added) old new → All IsMarked old → Each IsMarked new
+marked added old new sited zip m = all_marked added (omega (arith, sited)) old new zip (recursion_from_All IsMarked old m)
 
 -- each of a range passes
 pub all_in_range : (p : ℕ → Bool) (a n : ℕ) → ((k : ℕ) → a ≤ k → k < a + n → p k ≡ true) → list_all p (range_with_len a n) ≡ true

@@ -1,5 +1,5 @@
 -- Rows of the dictionary as CREATE and ALTER read them, and the changes that they make.
-use Rattle.std.specs.Prelude.{◌≡◌, ◌≢◌, ⊤, ℕ, ◌+◌, ◌≤◌, ◌==◌, nat_le, nat_lt, pos, Bool, false, not, ◌&&◌, ◌||◌, List, [], ◌∷◌, ◌++◌, length, map, All, Some, slice_index_or}
+use Rattle.std.specs.Prelude.{◌≡◌, ℕ, ◌+◌, ◌≤◌, ◌==◌, nat_le, nat_lt, pos, Bool, false, not, ◌&&◌, ◌||◌, List, [], ◌∷◌, ◌++◌, length, map, All, Some, slice_index_or}
 use Rattle.std.specs.Str.{bytes_eq}
 use Rattle.std.specs.List.{list_all, list_any, range_with_len}
 use Rattle.hb_types.specs.declared.change.Change.{Change}
@@ -70,20 +70,20 @@ spread_told number members entries = record { number = number; name = []; member
 abbrev pub added_refusals : List ℕ → List Entry → ℕ → List (Bool × Reply)
 added_refusals members entries area = add_area_refusals (spread_told 0 members entries) (Some (record { number = area; name = [] }))
 
--- an entry that reads back as it is written
+-- an entry that reads back as it is written: it names no area of ds
 abbrev pub IsMarked : Entry → Type 0
-IsMarked (At a) = ⊤
-IsMarked (Moving a b) = b ≢ 0
+IsMarked (At a) = 1 ≤ a
+IsMarked (Moving a b) = (1 ≤ a) × (1 ≤ b)
 
 abbrev pub is_placed : List ℕ → Entry → Bool
-is_placed members (At a) = list_any (λ m. a == m) members
+is_placed members (At a) = nat_le 1 a && list_any (λ m. a == m) members
 is_placed members (Moving a b) = false
 
 -- whether an area has as many groups as it keeps where one more area is added
 abbrev pub has_enough : List ℕ → List Entry → ℕ → Bool
 has_enough members entries i = nat_le (quota i (length members + 1)) (count_at entries (slice_index_or members i 0))
 
--- whether each group lies in one of 1 to 15 distinct areas, and each area has as many groups as it keeps
+-- whether each group lies in one of 1 to 15 distinct areas, none of ds, and each area has as many groups as it keeps
 abbrev pub can_spread : List ℕ → List Entry → Bool
 can_spread members entries =
     (length entries == 1024) && (nat_le 1 (length members) && (nat_le (length members) 15 && (not (has_twins (λ a b. a == b) members)

@@ -84,7 +84,7 @@ fn is_placed(members: &[u16], entry: &Entry) -> bool
     ensures { result ≡ placed members.now entry.now }
 {
     match entry {
-        Entry::At(area) => is_member(members, *area),
+        Entry::At(area) => *area >= 1 && is_member(members, *area),
         Entry::Moving(_, _) => false,
     }
 }

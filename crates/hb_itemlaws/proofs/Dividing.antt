@@ -25,7 +25,7 @@ use Rattle.hb_talk.specs.Talk.{Talk, says, asks, Begins, Follows, ends, asked, g
 use Rattle.hb_plancalc.specs.Counted.{IsWithin}
 use Rattle.hb_plancalc.proofs.Steps.{rejects}
 use Rattle.hb_planlaws.specs.Planned.{most_back_ends}
-use Rattle.hb_faithful.specs.Planned.{AreAnswers, AreBeside, Closes, Opens}
+use Rattle.hb_faithful.specs.Planned.{AreBeside, Closes, Opens}
 use Rattle.hb_faithful.proofs.Faithfuls.{given_up_faithful}
 use Rattle.hb_faithful.proofs.Rolling.{rolling_closes}
 use Rattle.hb_law.specs.Transactions.{IsRightStatement, begins_of}
@@ -54,9 +54,9 @@ pub fresh_within : (tx : ℕ) → IsWithin (fresh tx)
 fresh_within tx = record { locks = omega arith; bytes = omega arith }
 
 -- a transaction that could not be entered
-unentered : (back_ends : ℕ) (st : Statement) (u : Use) (front back : List Call) (a : Answer) → Opens front → Closes back (refusal_of mgr a) → IsWithin u → AreAnswers (front ++ back)
+unentered : (back_ends : ℕ) (st : Statement) (u : Use) (front back : List Call) (a : Answer) → Opens front → Closes back (refusal_of mgr a) → IsWithin u
     → IsRightStatement back_ends nothing_spent st (front ++ back) (Some (refusal_of mgr a))
-unentered back_ends statement.Commit u front back a opens closes within answers =
+unentered back_ends statement.Commit u front back a opens closes within =
     let whole : AreBeside (front ++ back) = both front opens.beside in
     let says : IsTrue (says_undone (refusal_of mgr a)) = outside_undone (refusal_of mgr a) (rejects mgr a) in (
       bare_beside (front ++ back) whole,
@@ -66,10 +66,10 @@ unentered back_ends statement.Commit u front back a opens closes within answers 
     both : (xs : List Call) → AreBeside xs → AreBeside (xs ++ back)
     both [] b = closes.beside
     both (x ∷ xs) b = (b.0, both xs b.1)
-unentered back_ends st u front back a opens closes within answers = (
+unentered back_ends st u front back a opens closes within = (
   false,
   given_up_faithful st back_ends u (front ++ back) (refusal_of mgr a) nothing_spent within
-      (record { front = front; asked = []; back = back; parts = refl; begins = ends_somehow (plan back_ends st u); opens = opens; closes = closes }) (rejects mgr a) answers,
+      (record { front = front; asked = []; back = back; parts = refl; begins = ends_somehow (plan back_ends st u); opens = opens; closes = closes }) (rejects mgr a),
 )
 
 -- a transaction that was begun: its calls, from its Begin on, and its items
@@ -95,9 +95,9 @@ module _ (back_ends : ℕ) (owner : Owner) (w : Given) (ws : List Given) (few : 
   begin_opens tx = record { beside = (refl, tt); no_rows = refl }
 
   refused : (tx : Tx) (b : Answer) (cs : List Call) (replies : List Reply)
-      → Follows false (going_on (λ r. begun_with back_ends owner (statements (w ∷ ws)) (Err r)) (rolling_back (fresh tx.0) 0 (refusal_of mgr b))) cs replies → AreAnswers (begin tx ∷ enter tx b ∷ cs)
+      → Follows false (going_on (λ r. begun_with back_ends owner (statements (w ∷ ws)) (Err r)) (rolling_back (fresh tx.0) 0 (refusal_of mgr b))) cs replies
       → BegunItems back_ends owner (w ∷ ws) (begin tx ∷ enter tx b ∷ cs) replies
-  refused tx b cs replies f answers =
+  refused tx b cs replies f =
       let r : Reply = refusal_of mgr b in
       let s = split (λ z. says (z ∷ [])) (rolling_back (fresh tx.0) 0 r) cs replies f in
       let done = over (s.value ∷ []) replies s.back s.rest in
@@ -112,35 +112,35 @@ module _ (back_ends : ℕ) (owner : Owner) (w : Given) (ws : List Given) (few : 
         no_begin = (refl, unbegun_followed false t cs replies f (end_unbegun t (undone_ends (fresh tx.0) r)));
         items = subst (Items back_ends (Some tx.0) (w ∷ ws) nothing_spent (begin tx ∷ enter tx b ∷ cs)) (ap (λ z. z ∷ []) (sym rolls.0) ∙ sym done.1)
             (only back_ends (Some tx.0) w ws nothing_spent (begin tx ∷ enter tx b ∷ cs) r
-            (unentered back_ends w.1 (fresh tx.0) (begin tx ∷ []) (enter tx b ∷ cs) b (begin_opens tx) (record { beside = (refl, closes.beside); undone = λ h. inr (closes.undone h) }) (fresh_within tx.0) answers));
+            (unentered back_ends w.1 (fresh tx.0) (begin tx ∷ []) (enter tx b ∷ cs) b (begin_opens tx) (record { beside = (refl, closes.beside); undone = λ h. inr (closes.undone h) }) (fresh_within tx.0)));
       }
 
   module _ (plain : Each (λ x. IsTrue (is_plain x.1)) (w ∷ ws)) where
-    by_enter : (tx : Tx) (b : Answer) (cs : List Call) (replies : List Reply) → Follows false (goes_on (goes_on whole_talk (answer.Begun tx)) b) cs replies → AreAnswers (begin tx ∷ enter tx b ∷ cs)
+    by_enter : (tx : Tx) (b : Answer) (cs : List Call) (replies : List Reply) → Follows false (goes_on (goes_on whole_talk (answer.Begun tx)) b) cs replies
         → BegunItems back_ends owner (w ∷ ws) (begin tx ∷ enter tx b ∷ cs) replies
-    by_enter tx answer.Done cs replies f answers = record {
+    by_enter tx answer.Done cs replies f = record {
       tx = tx;
       more = enter tx answer.Done ∷ cs;
       whole = refl;
       no_begin = (refl, unbegun_followed false (going back_ends owner (statements (w ∷ ws)) (fresh tx.0)) cs replies f (going_unbegun back_ends owner (statements (w ∷ ws)) (fresh tx.0)));
       items = all_right back_ends owner few tx.0 (w ∷ ws) (fresh tx.0) (begin tx ∷ enter tx answer.Done ∷ []) cs replies refl (record { beside = (refl, (refl, tt)); no_rows = refl })
-          (fresh_within tx.0) plain f answers;
+          (fresh_within tx.0) plain f;
     }
-    by_enter tx b cs replies f answers = refused tx b cs replies f answers
+    by_enter tx b cs replies f = refused tx b cs replies f
 
-    pub by_begin : (a : Answer) (cs : List Call) (replies : List Reply) → Follows false (goes_on whole_talk a) cs replies → AreAnswers (call fes1 (request.Begin owner) a ∷ cs)
+    pub by_begin : (a : Answer) (cs : List Call) (replies : List Reply) → Follows false (goes_on whole_talk a) cs replies
         → begins_of (call fes1 (request.Begin owner) a ∷ cs) ≢ [] → BegunItems back_ends owner (w ∷ ws) (call fes1 (request.Begin owner) a ∷ cs) replies
-    by_begin (answer.Begun tx) _ replies (asked {cs = cs} b j g) answers begun = by_enter tx b cs replies g answers
-    by_begin a cs replies f answers begun = absurd (begun (ap begins_of (over (refusal_of fes1 a ∷ []) replies cs f).0))
+    by_begin (answer.Begun tx) _ replies (asked {cs = cs} b j g) begun = by_enter tx b cs replies g
+    by_begin a cs replies f begun = absurd (begun (ap begins_of (over (refusal_of fes1 a ∷ []) replies cs f).0))
 
 -- a transaction that was begun has items
 pub begun_items : (back_ends : ℕ) (owner : Owner) (w : Given) (ws : List Given) (calls : List Call) (replies : List Reply) → back_ends ≤ most_back_ends → Each (λ x. IsTrue (is_plain x.1)) (w ∷ ws)
-    → Follows false (transaction back_ends owner (statements (w ∷ ws))) calls replies → AreAnswers calls → begins_of calls ≢ [] → BegunItems back_ends owner (w ∷ ws) calls replies
-begun_items back_ends owner w ws _ replies few plain (asked {cs = cs} a i f) answers begun = by_begin back_ends owner w ws few plain a cs replies f answers begun
+    → Follows false (transaction back_ends owner (statements (w ∷ ws))) calls replies → begins_of calls ≢ [] → BegunItems back_ends owner (w ∷ ws) calls replies
+begun_items back_ends owner w ws _ replies few plain (asked {cs = cs} a i f) begun = by_begin back_ends owner w ws few plain a cs replies f begun
 
 abbrev pub divided : (back_ends : ℕ) (whose : Option ℕ) (works : List Given) (calls : List Call) (replies : List Reply) → Items back_ends whose works nothing_spent calls replies → Divided back_ends works calls replies
 divided back_ends whose works calls replies i = record { items = i.items; made_of = i.made_of; each = i.each; right = i.right }
 
 pub transactions_right : TransactionsAreRight
-transactions_right back_ends owner w ws calls replies few plain follows answers begun =
-    let b = begun_items back_ends owner w ws calls replies few plain follows answers begun in divided back_ends (Some b.tx.0) (w ∷ ws) calls replies b.items
+transactions_right back_ends owner w ws calls replies few plain follows begun =
+    let b = begun_items back_ends owner w ws calls replies few plain follows begun in divided back_ends (Some b.tx.0) (w ∷ ws) calls replies b.items

@@ -23,7 +23,7 @@ use Rattle.hb_talk.specs.PlansDefine.{plan}
 use Rattle.hb_talk.specs.Talk.{Begins, Follows, Use, says}
 use Rattle.hb_plancalc.specs.Counted.{IsWithin, reply_in, spent_of}
 use Rattle.hb_planlaws.specs.Planned.{most_back_ends}
-use Rattle.hb_faithful.specs.Planned.{AreAnswers, AreBeside, Closes, Opens, is_beside, is_planned}
+use Rattle.hb_faithful.specs.Planned.{AreBeside, Closes, Opens, is_beside, is_planned}
 use Rattle.hb_faithful.proofs.Beside.{undecided}
 use Rattle.hb_faithful.proofs.Faithfuls.{given_up_faithful}
 use Rattle.hb_faithful.proofs.Telling.{plan_tells_undone}
@@ -65,8 +65,8 @@ none_begins back_ends u asked (more, r, f) =
     none (x ∷ xs) ys e = absurd (cc e)
 
 amid_right : (back_ends : ℕ) (st : Statement) (u : Use) (front asked back : List Call) (why : Reply) → IsTrue (is_outside why) → Opens front → Closes back why → IsWithin u
-    → Begins (plan back_ends st u) asked → AreAnswers (front ++ (asked ++ back)) → IsRightStatement back_ends (spent_of u) st (front ++ (asked ++ back)) (Some why)
-amid_right back_ends statement.Commit u front asked back why outside opens closes within begins answers =
+    → Begins (plan back_ends st u) asked → IsRightStatement back_ends (spent_of u) st (front ++ (asked ++ back)) (Some why)
+amid_right back_ends statement.Commit u front asked back why outside opens closes within begins =
     let whole : List Call = front ++ (asked ++ back) in
     let beside : AreBeside whole = both_beside front (asked ++ back) opens.beside (both_beside asked back (none_begins back_ends u asked begins) closes.beside) in
     let says : IsTrue (says_undone why) = outside_undone why outside in (
@@ -74,10 +74,10 @@ amid_right back_ends statement.Commit u front asked back why outside opens close
       tells_off whole why (outside_bare why outside) (off whole beside) says
           (asked_behind is_undoing front (asked ++ back) (asked_behind is_undoing asked back (closes.undone says))),
     )
-amid_right back_ends st u front asked back why outside opens closes within begins answers = (
+amid_right back_ends st u front asked back why outside opens closes within begins = (
   false,
   given_up_faithful st back_ends u (front ++ (asked ++ back)) why (spent_of u) within
-      (record { front = front; asked = asked; back = back; parts = refl; begins = begins; opens = opens; closes = closes }) outside answers,
+      (record { front = front; asked = asked; back = back; parts = refl; begins = begins; opens = opens; closes = closes }) outside,
 )
 
 -- ---- those before it
@@ -149,17 +149,16 @@ module _ (back_ends : ℕ) (owner : Owner) (few : back_ends ≤ most_back_ends) 
   StartsBehind replies = replies ≢ [] → StartsOf whose back
 
   amid_items : (works : List Given) (u : Use) (front asked : List Call) (replies : List Reply) → LeftOff back_ends true works u asked replies → IsTrue (is_outside why) → IsOf whose u → StartsBehind replies
-      → Opens front → IsWithin u → Each (λ w. IsTrue (is_plain w.1)) works → AreAnswers (front ++ (asked ++ back))
+      → Opens front → IsWithin u → Each (λ w. IsTrue (is_plain w.1)) works
       → Items back_ends whose works (spent_of u) (front ++ (asked ++ back)) (replies ++ why ∷ [])
-  amid_items _ u front asked _ (amid {w} {ws} begins) outside e starts opens within plain answers =
-      only back_ends whose w ws (spent_of u) (front ++ (asked ++ back)) why (amid_right back_ends w.1 u front asked back why outside opens closes within begins answers)
-  amid_items _ u front _ _ (behind {w} {ws} {v} {asked = xs} {calls = cs} {o} {replies = rs} planned follows stays left) outside e starts opens within plain answers =
+  amid_items _ u front asked _ (amid {w} {ws} begins) outside e starts opens within plain =
+      only back_ends whose w ws (spent_of u) (front ++ (asked ++ back)) why (amid_right back_ends w.1 u front asked back why outside opens closes within begins)
+  amid_items _ u front _ _ (behind {w} {ws} {v} {asked = xs} {calls = cs} {o} {replies = rs} planned follows stays left) outside e starts opens within plain =
       let open_still = plan_tells_undone w.1 planned back_ends u v xs o follows ∙ stays in
       let of_tx = still_of back_ends whose w.1 u v xs o e follows in
       let starting : StartsOf whose back = starts (λ x. absurd (cc x)) in
-      let item = kept_item back_ends owner few u.tx w ws plain.0 (uncommitted w.1 planned) u v front xs (cs ++ back) o opens within follows open_still
-      (subst (λ zs. AreAnswers (front ++ zs)) (append_assoc xs cs back) answers) in
-      let rest = amid_items ws v [] cs rs left outside of_tx (λ x. starting) (record { beside = tt; no_rows = refl }) item.within plain.1 item.behind in
+      let item = kept_item back_ends owner few u.tx w ws plain.0 (uncommitted w.1 planned) u v front xs o opens within follows open_still in
+      let rest = amid_items ws v [] cs rs left outside of_tx (λ x. starting) (record { beside = tt; no_rows = refl }) item.within plain.1 in
       subst (λ zs. Items back_ends whose (w ∷ ws) (spent_of u) zs (reply_in o ∷ (rs ++ why ∷ []))) (regroup front xs cs back)
       (before back_ends whose w ws (spent_of u) (front ++ xs) (cs ++ back) (reply_in o) (rs ++ why ∷ []) item.right (left_starts back_ends whose true ws v cs back rs left of_tx starting)
       (subst (λ s. Items back_ends whose ws s (cs ++ back) (rs ++ why ∷ [])) item.spent rest))
@@ -195,8 +194,8 @@ module _ (back_ends : ℕ) (owner : Owner) (few : back_ends ≤ most_back_ends) 
     }
 
     closed_items : (works : List Given) (u : Use) (front asked : List Call) (replies : List Reply) → LeftOff back_ends false works u asked replies → IsTrue (is_outside why) → IsOf whose u → StartsBehind replies → Opens front → IsWithin u
-        → Each (λ w. IsTrue (is_plain w.1)) works → AreAnswers (front ++ (asked ++ back)) → ClosedItems back_ends place whose works (spent_of u) (front ++ (asked ++ back)) replies why
-    closed_items works u front _ _ between outside e starts opens within plain answers =
+        → Each (λ w. IsTrue (is_plain w.1)) works → ClosedItems back_ends place whose works (spent_of u) (front ++ (asked ++ back)) replies why
+    closed_items works u front _ _ between outside e starts opens within plain =
         let beside : AreBeside (front ++ back) = both_beside front back opens.beside closes.beside in
         let says : IsTrue (says_undone why) = outside_undone why outside in
         let undone : HasAsked is_undoing (front ++ back) = asked_behind is_undoing front back (closes.undone says) in
@@ -208,13 +207,12 @@ module _ (back_ends : ℕ) (owner : Owner) (few : back_ends ≤ most_back_ends) 
           right = ((undecided (front ++ back) beside, bare_beside (front ++ back) beside, (inr (says, undone), tt)), tt);
           own = tt;
         }
-    closed_items _ u front _ _ (behind {w} {ws} {v} {asked = xs} {calls = cs} {o} {replies = rs} planned follows stays left) outside e starts opens within plain answers =
+    closed_items _ u front _ _ (behind {w} {ws} {v} {asked = xs} {calls = cs} {o} {replies = rs} planned follows stays left) outside e starts opens within plain =
         let open_still = plan_tells_undone w.1 planned back_ends u v xs o follows ∙ stays in
         let of_tx = still_of back_ends whose w.1 u v xs o e follows in
         let starting : StartsOf whose back = starts (λ x. absurd (cc x)) in
-        let item = kept_item back_ends owner few u.tx w ws plain.0 (uncommitted w.1 planned) u v front xs (cs ++ back) o opens within follows open_still
-        (subst (λ zs. AreAnswers (front ++ zs)) (append_assoc xs cs back) answers) in
-        let rest = closed_items ws v [] cs rs left outside of_tx (λ x. starting) (record { beside = tt; no_rows = refl }) item.within plain.1 item.behind in
+        let item = kept_item back_ends owner few u.tx w ws plain.0 (uncommitted w.1 planned) u v front xs o opens within follows open_still in
+        let rest = closed_items ws v [] cs rs left outside of_tx (λ x. starting) (record { beside = tt; no_rows = refl }) item.within plain.1 in
         cons w ws u v (front ++ xs) (cs ++ back) (front ++ ((xs ++ cs) ++ back)) (reply_in o) rs item.right item.spent (regroup front xs cs back)
         (left_starts back_ends whose false ws v cs back rs left of_tx starting) rest
 
@@ -224,30 +222,30 @@ module _ (back_ends : ℕ) (owner : Owner) (few : back_ends ≤ most_back_ends) 
 nobody : Owner
 nobody = record { session = 0; nth = 0 }
 
-module _ (back_ends : ℕ) (works : List Given) (calls : List Call) (replies : List Reply) (why : Reply) (few : back_ends ≤ most_back_ends) (plain : Each (λ w. IsTrue (is_plain w.1)) works) (answers : AreAnswers calls) where
+module _ (back_ends : ℕ) (works : List Given) (calls : List Call) (replies : List Reply) (why : Reply) (few : back_ends ≤ most_back_ends) (plain : Each (λ w. IsTrue (is_plain w.1)) works) where
   amid_whole : (whose : Option ℕ) (g : GivenUp back_ends true works calls replies why) → IsOf whose (fresh g.tx) → (replies ≢ [] → StartsOf whose g.back)
       → Items back_ends whose works nothing_spent calls (replies ++ why ∷ [])
   amid_whole whose g e starts =
       subst (λ cs. Items back_ends whose works nothing_spent cs (replies ++ why ∷ [])) (sym g.parts)
-      (amid_items back_ends nobody few whose why g.back g.closes works (fresh g.tx) g.front g.asked replies g.left g.outside e starts g.opens (fresh_within g.tx) plain (subst AreAnswers g.parts answers))
+      (amid_items back_ends nobody few whose why g.back g.closes works (fresh g.tx) g.front g.asked replies g.left g.outside e starts g.opens (fresh_within g.tx) plain)
 
   closed_whole : (whose : Option ℕ) (place : ℕ) (g : GivenUp back_ends false works calls replies why) → IsOf whose (fresh g.tx) → (replies ≢ [] → StartsOf whose g.back)
       → ClosedItems back_ends place whose works nothing_spent calls replies why
   closed_whole whose place g e starts =
       subst (λ cs. ClosedItems back_ends place whose works nothing_spent cs replies why) (sym g.parts)
-      (closed_items back_ends nobody few whose why g.back g.closes place works (fresh g.tx) g.front g.asked replies g.left g.outside e starts g.opens (fresh_within g.tx) plain (subst AreAnswers g.parts answers))
+      (closed_items back_ends nobody few whose why g.back g.closes place works (fresh g.tx) g.front g.asked replies g.left g.outside e starts g.opens (fresh_within g.tx) plain)
 
 pub given_up_right : GivenUpAreRight
-given_up_right back_ends works calls replies why few plain g answers =
-    divided back_ends None works calls (replies ++ why ∷ []) (amid_whole back_ends works calls replies why few plain answers None g tt (λ x. tt))
+given_up_right back_ends works calls replies why few plain g =
+    divided back_ends None works calls (replies ++ why ∷ []) (amid_whole back_ends works calls replies why few plain None g tt (λ x. tt))
 
 abbrev closed : (back_ends place : ℕ) (whose : Option ℕ) (works : List Given) (calls : List Call) (replies : List Reply) (why : Reply) → ClosedItems back_ends place whose works nothing_spent calls replies why
     → Closed back_ends place works calls replies why
 closed back_ends place whose works calls replies why i = record { items = i.items; last = i.last; made_of = i.made_of; each = i.each; right = i.right }
 
 pub closed_right : ClosedAreRight
-closed_right back_ends place works calls replies why few plain g answers =
-    closed back_ends place None works calls replies why (closed_whole back_ends works calls replies why few plain answers None place g tt (λ x. tt))
+closed_right back_ends place works calls replies why few plain g =
+    closed back_ends place None works calls replies why (closed_whole back_ends works calls replies why few plain None place g tt (λ x. tt))
 
 -- ---- their own
 
@@ -257,14 +255,14 @@ calls_behind [] place last why = append-nil last
 calls_behind (i ∷ is) place last why = ap (λ zs. i.calls ++ zs) (calls_behind is place last why) ∙ sym (append_assoc i.calls (calls_of is) last)
 
 pub given_up_own : GivenUpAreOwn
-given_up_own back_ends owner works calls replies why few plain g answers sys (more, whole, quiet) starts =
-    let i = amid_whole back_ends works calls replies why few plain answers (Some g.tx) g refl starts in
+given_up_own back_ends owner works calls replies why few plain g sys (more, whole, quiet) starts =
+    let i = amid_whole back_ends works calls replies why few plain (Some g.tx) g refl starts in
     let c : Call = call fes1 (request.Begin owner) (answer.Begun (record { 0 = g.tx })) in
     (divided back_ends (Some g.tx) works calls (replies ++ why ∷ []) i, are_own g.tx i.items c more refl refl i.own (i.made_of ∙ whole) quiet (subst AreBegins whole sys).1)
 
 pub closed_own : ClosedAreOwn
-closed_own back_ends place owner works calls replies why few plain g answers sys (more, whole, quiet) starts =
-    let i = closed_whole back_ends works calls replies why few plain answers (Some g.tx) place g refl starts in
+closed_own back_ends place owner works calls replies why few plain g sys (more, whole, quiet) starts =
+    let i = closed_whole back_ends works calls replies why few plain (Some g.tx) place g refl starts in
     let c : Call = call fes1 (request.Begin owner) (answer.Begun (record { 0 = g.tx })) in (
       closed back_ends place (Some g.tx) works calls replies why i,
       are_own g.tx (i.items ++ closing place i.last why ∷ []) c more refl refl i.own (calls_behind i.items place i.last why ∙ i.made_of ∙ whole) quiet (subst AreBegins whole sys).1,

@@ -5,9 +5,7 @@ use Rattle.std.proofs.lemmas.Bool.{false≢true}
 use Rattle.std.proofs.lemmas.List.{append-nil, append_assoc}
 use Rattle.hb_types.specs.declared.names.Owner.{Owner}
 use Rattle.hb_types.specs.declared.trail.Call.{Call}
-use Rattle.hb_types.specs.Calls.{IsAnswer}
 use Rattle.hb_types.specs.Lists.{Each}
-use Rattle.hb_types.proofs.Ascending.{Each-back, Each-front}
 use Rattle.hb_model.specs.declared.reply.Reply.{Reply}
 use Rattle.hb_model.specs.declared.reply.Reply.TheVariants as reply
 use Rattle.hb_model.specs.declared.statement.Statement.{Statement}
@@ -24,7 +22,7 @@ use Rattle.hb_talk.specs.Talk.{Talk, Follows, ends, going_on, says, Use}
 use Rattle.hb_plancalc.specs.Counted.{IsWithin, reply_in, spent_of}
 use Rattle.hb_plancalc.proofs.Plain.{plan_counts}
 use Rattle.hb_planlaws.specs.Planned.{most_back_ends}
-use Rattle.hb_faithful.specs.Planned.{AreAnswers, AreBeside, Closes, Opens, is_planned}
+use Rattle.hb_faithful.specs.Planned.{AreBeside, Closes, Opens, is_planned}
 use Rattle.hb_faithful.proofs.Beside.{same_bytes, same_grants}
 use Rattle.hb_faithful.proofs.Does.{plan_does}
 use Rattle.hb_faithful.proofs.Faithfuls.{plan_faithful}
@@ -119,11 +117,10 @@ abbrev pub item_of : Given → List Call → Reply → Item
 item_of w calls r = record { place = w.0; doing = sql w.1; calls = calls; lines = r ∷ [] }
 
 -- a statement that left its transaction open: its item is right, and what it spent is counted
-pub record KeptItem (back_ends : ℕ) (st : Statement) (u v : Use) (calls rest : List Call) (r : Reply) : Type 0 where
+pub record KeptItem (back_ends : ℕ) (st : Statement) (u v : Use) (calls : List Call) (r : Reply) : Type 0 where
   pub right : IsRightStatement back_ends (spent_of u) st calls (Some r)
   pub within : IsWithin v
   pub spent : spent_of v ≡ spending (spent_of u) calls
-  pub behind : AreAnswers rest
 
 module _ (back_ends : ℕ) (whose : Option ℕ) where
   -- the last statement of a transaction
@@ -148,79 +145,76 @@ module _ (back_ends : ℕ) (whose : Option ℕ) where
 module _ (back_ends : ℕ) (owner : Owner) (few : back_ends ≤ most_back_ends) (tx : ℕ) where
   -- what follows a statement is divided
   abbrev Rest : List Given → Type 0
-  Rest ws = (v : Use) (ys : List Call) (qs : List Reply) → v.tx ≡ tx → IsWithin v → Follows false (going back_ends owner (statements ws) v) ys qs → AreAnswers ys → Items back_ends (Some tx) ws (spent_of v) ys qs
+  Rest ws = (v : Use) (ys : List Call) (qs : List Reply) → v.tx ≡ tx → IsWithin v → Follows false (going back_ends owner (statements ws) v) ys qs → Items back_ends (Some tx) ws (spent_of v) ys qs
 
   module _ (w : Given) (ws : List Given) (plain : IsTrue (is_plain w.1)) (other : IsTrue (not (is_commit w.1))) where
     rightly : (u v : Use) (front xs ys : List Call) (o : Result Reply Reply) (r : Reply) → reply_in o ≡ r → Opens front → Closes ys r → IsWithin u → Follows false (plan back_ends w.1 u) xs (o, v)
-        → AreAnswers (front ++ (xs ++ ys)) → IsRightStatement back_ends (spent_of u) w.1 (front ++ (xs ++ ys)) (Some r)
-    rightly u v front xs ys o r is opens closes within follows answers =
+        → IsRightStatement back_ends (spent_of u) w.1 (front ++ (xs ++ ys)) (Some r)
+    rightly u v front xs ys o r is opens closes within follows =
         right_faithful back_ends (spent_of u) w.1 (front ++ (xs ++ ys)) r other
         (plan_faithful w.1 (plan_does w.1 plain) back_ends u (front ++ (xs ++ ys)) r few within
-        (record { front = front; asked = xs; back = ys; parts = refl; outcome = o; last = v; follows = follows; replies = is; opens = opens; closes = closes }) answers)
+        (record { front = front; asked = xs; back = ys; parts = refl; outcome = o; last = v; follows = follows; replies = is; opens = opens; closes = closes }))
 
     -- its item, where the transaction goes on
-    pub kept_item : (u v : Use) (front xs ys : List Call) (o : Result Reply Reply) → Opens front → IsWithin u → Follows false (plan back_ends w.1 u) xs (o, v) → says_undone (reply_in o) ≡ false
-        → AreAnswers (front ++ (xs ++ ys)) → KeptItem back_ends w.1 u v (front ++ xs) ys (reply_in o)
-    kept_item u v front xs ys o opens within follows stays answers =
+    pub kept_item : (u v : Use) (front xs : List Call) (o : Result Reply Reply) → Opens front → IsWithin u → Follows false (plan back_ends w.1 u) xs (o, v) → says_undone (reply_in o) ≡ false
+        → KeptItem back_ends w.1 u v (front ++ xs) (reply_in o)
+    kept_item u v front xs o opens within follows stays =
         let r : Reply = reply_in o in
-        let P : Call → Type 0 = λ c. IsAnswer c.answer in
         let counts = (plan_counts w.1 back_ends u v xs o within follows).1 (ap not (kept_inside r stays)) in
         let none : xs ++ [] ≡ xs = append-nil xs in
-        let here : AreAnswers (front ++ xs) = Each-front P (front ++ xs) ys (subst AreAnswers (sym (append_assoc front xs ys)) answers) in
         record {
           right = subst (λ zs. IsRightStatement back_ends (spent_of u) w.1 (front ++ zs) (Some r)) none
-              (rightly u v front xs [] o r refl opens (record { beside = tt; undone = λ h. absurd (false≢true (sym stays ∙ h)) }) within follows (subst (λ zs. AreAnswers (front ++ zs)) (sym none) here));
+              (rightly u v front xs [] o r refl opens (record { beside = tt; undone = λ h. absurd (false≢true (sym stays ∙ h)) }) within follows);
           within = counts.0;
           spent = counts.1 ∙ sym (spending_whole (spent_of u) front xs opens.beside);
-          behind = Each-back P xs ys (Each-back P front (xs ++ ys) answers);
         }
 
     -- the transaction goes on
     kept : (u v : Use) (front xs ys : List Call) (rs : List Reply) (o : Result Reply Reply) → u.tx ≡ tx → Opens front → IsWithin u → Follows false (plan back_ends w.1 u) xs (o, v) → says_undone (reply_in o) ≡ false
-        → Follows false (with_reply (reply_in o) (going back_ends owner (statements ws) v)) ys rs → AreAnswers (front ++ (xs ++ ys)) → Rest ws → Items back_ends (Some tx) (w ∷ ws) (spent_of u) (front ++ (xs ++ ys)) rs
-    kept u v front xs ys rs o of_tx opens within follows stays goes answers more =
+        → Follows false (with_reply (reply_in o) (going back_ends owner (statements ws) v)) ys rs → Rest ws → Items back_ends (Some tx) (w ∷ ws) (spent_of u) (front ++ (xs ++ ys)) rs
+    kept u v front xs ys rs o of_tx opens within follows stays goes more =
         let r : Reply = reply_in o in
         let s = split (λ qs. says (r ∷ qs)) (going back_ends owner (statements ws) v) ys rs goes in
         let done = over (r ∷ s.value) rs s.back s.rest in
         let same : s.front ≡ ys = sym (append-nil s.front) ∙ ap (λ zs. s.front ++ zs) (sym done.0) ∙ sym s.parts in
         let same_tx = own_said tx false (plan back_ends w.1 u) xs (o, v) follows ((owns_plan back_ends w.1).holds tx u of_tx) in
-        let item = kept_item u v front xs ys o opens within follows stays answers in
+        let item = kept_item u v front xs o opens within follows stays in
         let rest : Items back_ends (Some tx) ws (spending (spent_of u) (front ++ xs)) s.front s.value =
-        subst (λ z. Items back_ends (Some tx) ws z s.front s.value) item.spent (more v s.front s.value same_tx item.within s.first (subst AreAnswers (sym same) item.behind)) in
+        subst (λ z. Items back_ends (Some tx) ws z s.front s.value) item.spent (more v s.front s.value same_tx item.within s.first) in
         subst (λ zs. Items back_ends (Some tx) (w ∷ ws) (spent_of u) zs rs) (ap (λ zs. (front ++ xs) ++ zs) same ∙ append_assoc front xs ys)
         (subst (Items back_ends (Some tx) (w ∷ ws) (spent_of u) ((front ++ xs) ++ s.front)) (sym done.1) (before back_ends (Some tx) w ws (spent_of u) (front ++ xs) s.front r s.value item.right
         (first_followed tx (going back_ends owner (statements ws) v) s.front s.value s.first (going_first back_ends owner (statements ws) tx v same_tx)) rest))
 
     -- the transaction is rolled back
     rolled : (u v : Use) (front xs ys : List Call) (rs : List Reply) (o : Result Reply Reply) (r : Reply) → reply_in o ≡ r → Opens front → IsWithin u → Follows false (plan back_ends w.1 u) xs (o, v)
-        → Follows false (going_on (λ s. says (s ∷ [])) (rolling_back v 0 r)) ys rs → AreAnswers (front ++ (xs ++ ys)) → Items back_ends (Some tx) (w ∷ ws) (spent_of u) (front ++ (xs ++ ys)) rs
-    rolled u v front xs ys rs o r is opens within follows goes answers =
+        → Follows false (going_on (λ s. says (s ∷ [])) (rolling_back v 0 r)) ys rs → Items back_ends (Some tx) (w ∷ ws) (spent_of u) (front ++ (xs ++ ys)) rs
+    rolled u v front xs ys rs o r is opens within follows goes =
         let s = split (λ z. says (z ∷ [])) (rolling_back v 0 r) ys rs goes in
         let done = over (s.value ∷ []) rs s.back s.rest in
         let closes = rolling_closes v 0 r s.value s.front s.first in
         let same : s.front ≡ ys = sym (append-nil s.front) ∙ ap (λ zs. s.front ++ zs) (sym done.0) ∙ sym s.parts in
         subst (Items back_ends (Some tx) (w ∷ ws) (spent_of u) (front ++ (xs ++ ys))) (ap (λ z. z ∷ []) (sym closes.0) ∙ sym done.1)
-        (only back_ends (Some tx) w ws (spent_of u) (front ++ (xs ++ ys)) r (rightly u v front xs ys o r is opens (subst (λ zs. Closes zs r) same closes.1) within follows answers))
+        (only back_ends (Some tx) w ws (spent_of u) (front ++ (xs ++ ys)) r (rightly u v front xs ys o r is opens (subst (λ zs. Closes zs r) same closes.1) within follows))
 
     after_plan : (u v : Use) (front xs ys : List Call) (rs : List Reply) (o : Result Reply Reply) → IsTrue (is_planned w.1) → u.tx ≡ tx → Opens front → IsWithin u → Follows false (plan back_ends w.1 u) xs (o, v)
-        → Follows false (after (going back_ends owner (statements ws)) o v) ys rs → AreAnswers (front ++ (xs ++ ys)) → Rest ws → Items back_ends (Some tx) (w ∷ ws) (spent_of u) (front ++ (xs ++ ys)) rs
-    after_plan u v front xs ys rs (Ok r) planned of_tx opens within follows goes answers more =
-        kept u v front xs ys rs (Ok r) of_tx opens within follows (plan_tells_undone w.1 planned back_ends u v xs (Ok r) follows) goes answers more
-    after_plan u v front xs ys rs (Err e) planned of_tx opens within follows goes answers more =
+        → Follows false (after (going back_ends owner (statements ws)) o v) ys rs → Rest ws → Items back_ends (Some tx) (w ∷ ws) (spent_of u) (front ++ (xs ++ ys)) rs
+    after_plan u v front xs ys rs (Ok r) planned of_tx opens within follows goes more =
+        kept u v front xs ys rs (Ok r) of_tx opens within follows (plan_tells_undone w.1 planned back_ends u v xs (Ok r) follows) goes more
+    after_plan u v front xs ys rs (Err e) planned of_tx opens within follows goes more =
         by (rolls_back e) (plan_tells_undone w.1 planned back_ends u v xs (Err e) follows) goes
       where
         by : (b : Bool) → says_undone e ≡ b → Follows false (if b then going_on (λ s. says (s ∷ [])) (rolling_back v 0 e) else with_reply e (going back_ends owner (statements ws) v)) ys rs
             → Items back_ends (Some tx) (w ∷ ws) (spent_of u) (front ++ (xs ++ ys)) rs
-        by true is g = rolled u v front xs ys rs (Err e) e refl opens within follows g answers
-        by false is g = kept u v front xs ys rs (Err e) of_tx opens within follows is g answers more
+        by true is g = rolled u v front xs ys rs (Err e) e refl opens within follows g
+        by false is g = kept u v front xs ys rs (Err e) of_tx opens within follows is g more
 
     planned_right : (u : Use) (front cs : List Call) (rs : List Reply) → IsTrue (is_planned w.1) → u.tx ≡ tx → Opens front → IsWithin u → Follows false (going back_ends owner (w.1 ∷ statements ws) u) cs rs
-        → AreAnswers (front ++ cs) → Rest ws → Items back_ends (Some tx) (w ∷ ws) (spent_of u) (front ++ cs) rs
-    planned_right u front cs rs planned of_tx opens within f answers more =
+        → Rest ws → Items back_ends (Some tx) (w ∷ ws) (spent_of u) (front ++ cs) rs
+    planned_right u front cs rs planned of_tx opens within f more =
         let go : Result Reply Reply × Use → Talk (List Reply) = λ p. after (going back_ends owner (statements ws)) p.0 p.1 in
         let s = split go (plan back_ends w.1 u) cs rs (subst (λ t. Follows false t cs rs) (going_planned back_ends owner w.1 (statements ws) u planned) f) in
         subst (λ zs. Items back_ends (Some tx) (w ∷ ws) (spent_of u) (front ++ zs) rs) (sym s.parts)
-        (after_plan u s.value.1 front s.front s.back rs s.value.0 planned of_tx opens within s.first s.rest (subst (λ zs. AreAnswers (front ++ zs)) s.parts answers) more)
+        (after_plan u s.value.1 front s.front s.back rs s.value.0 planned of_tx opens within s.first s.rest more)
 
   -- ---- the last statements
 
@@ -252,14 +246,14 @@ module _ (back_ends : ℕ) (owner : Owner) (few : back_ends ≤ most_back_ends) 
       (only back_ends (Some tx) (place, statement.Commit) ws (spent_of u) (front ++ s.front) s.value (bare_whole front s.front opens.beside tells.bare, tells_more front s.front s.value opens.beside tells.told)))
 
   pub all_right : (works : List Given) (u : Use) (front cs : List Call) (rs : List Reply) → u.tx ≡ tx → Fronted works front → IsWithin u → Each (λ w. IsTrue (is_plain w.1)) works
-      → Follows false (going back_ends owner (statements works) u) cs rs → AreAnswers (front ++ cs) → Items back_ends (Some tx) works (spent_of u) (front ++ cs) rs
-  all_right [] u front cs rs of_tx none within plain f answers =
+      → Follows false (going back_ends owner (statements works) u) cs rs → Items back_ends (Some tx) works (spent_of u) (front ++ cs) rs
+  all_right [] u front cs rs of_tx none within plain f =
       let done = over [] rs cs (subst (λ t. Follows false t cs rs) (going_none u) f) in
       subst (Items back_ends (Some tx) [] (spent_of u) (front ++ cs)) (sym done.1)
       (record { items = []; made_of = sym (ap (λ zs. zs ++ cs) none ∙ done.0); each = tt; right = tt; own = tt })
-  all_right ((place, statement.Commit) ∷ ws) u front cs rs of_tx opens within plain f answers = commit_right place ws u front cs rs opens f
-  all_right ((place, statement.Rollback) ∷ ws) u front cs rs of_tx opens within plain f answers =
+  all_right ((place, statement.Commit) ∷ ws) u front cs rs of_tx opens within plain f = commit_right place ws u front cs rs opens f
+  all_right ((place, statement.Rollback) ∷ ws) u front cs rs of_tx opens within plain f =
       rolled (place, statement.Rollback) ws refl refl u u front [] cs rs (Ok reply.RolledBack) reply.RolledBack refl opens within (rollback_plan u)
-      (subst (λ t. Follows false t cs rs) (going_rollback (statements ws) u) f) answers
-  all_right ((place, st) ∷ ws) u front cs rs of_tx opens within plain f answers =
-      planned_right (place, st) ws plain.0 refl u front cs rs refl of_tx opens within f answers (λ v ys qs e i g b. all_right ws v [] ys qs e (no_front ws) i plain.1 g b)
+      (subst (λ t. Follows false t cs rs) (going_rollback (statements ws) u) f)
+  all_right ((place, st) ∷ ws) u front cs rs of_tx opens within plain f =
+      planned_right (place, st) ws plain.0 refl u front cs rs refl of_tx opens within f (λ v ys qs e i g. all_right ws v [] ys qs e (no_front ws) i plain.1 g)

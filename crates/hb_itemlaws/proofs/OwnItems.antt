@@ -121,8 +121,8 @@ module _ (tx : ℕ) where
 -- ---- the laws
 
 pub transactions_own : TransactionsAreOwn
-transactions_own back_ends owner w ws calls replies few plain follows answers sys begun =
-    let b = begun_items back_ends owner w ws calls replies few plain follows answers begun in
+transactions_own back_ends owner w ws calls replies few plain follows sys begun =
+    let b = begun_items back_ends owner w ws calls replies few plain follows begun in
     let c : Call = call fes1 (request.Begin owner) (answer.Begun b.tx) in
     let known = subst AreBegins b.whole sys in (
       divided back_ends (Some b.tx.0) (w ∷ ws) calls replies b.items,

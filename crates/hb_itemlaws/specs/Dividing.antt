@@ -10,7 +10,6 @@ use Rattle.hb_model.specs.Plain.{is_plain}
 use Rattle.hb_talk.specs.Sessions.{transaction}
 use Rattle.hb_talk.specs.Talk.{Follows}
 use Rattle.hb_planlaws.specs.Planned.{most_back_ends}
-use Rattle.hb_faithful.specs.Planned.{AreAnswers}
 use Rattle.hb_law.specs.Transactions.{AreOfAKind, AreRight, begins_of, own_items}
 
 -- a statement, and its place in the script
@@ -33,12 +32,12 @@ pub record Divided (back_ends : ℕ) (works : List Given) (calls : List Call) (r
   pub each : AreItemsOf works replies items
   pub right : AreRight back_ends nothing_spent items
 
--- Whatever the answers are, as long as they are well formed, a transaction that was begun is made of right items.
+-- Whatever the answers are, a transaction that was begun is made of right items.
 abbrev pub TransactionsAreRight : Type 0
 TransactionsAreRight =
     (back_ends : ℕ) (owner : Owner) (work : Given) (works : List Given) (calls : List Call) (replies : List Reply) → back_ends ≤ most_back_ends
     → Each (λ w. IsTrue (is_plain w.1)) (work ∷ works) → Follows false (transaction back_ends owner (statements (work ∷ works))) calls replies
-    → AreAnswers calls → begins_of calls ≢ [] → Divided back_ends (work ∷ works) calls replies
+    → begins_of calls ≢ [] → Divided back_ends (work ∷ works) calls replies
 
 -- a transaction's items are right, and are statements, each with its reply
 pub record AreRightItems (back_ends : ℕ) (items : List Item) : Type 0 where

@@ -11,7 +11,7 @@ use Rattle.hb_talk.specs.PlansDefine.{plan}
 use Rattle.hb_talk.specs.Talk.{Begins, Follows, Use}
 use Rattle.hb_plancalc.specs.Counted.{reply_in}
 use Rattle.hb_planlaws.specs.Planned.{most_back_ends}
-use Rattle.hb_faithful.specs.Planned.{AreAnswers, Closes, Opens, is_planned, is_rolled_back}
+use Rattle.hb_faithful.specs.Planned.{Closes, Opens, is_planned, is_rolled_back}
 use Rattle.hb_law.specs.Transactions.{AreRight, own_items}
 use Rattle.hb_itemlaws.specs.Dividing.{AreItemsOf, AreRightItems, Divided, Given}
 
@@ -42,7 +42,7 @@ pub record GivenUp (back_ends : ℕ) (amidst : Bool) (works : List Given) (calls
 abbrev pub GivenUpAreRight : Type 0
 GivenUpAreRight =
     (back_ends : ℕ) (works : List Given) (calls : List Call) (replies : List Reply) (why : Reply) → back_ends ≤ most_back_ends → Each (λ w. IsTrue (is_plain w.1)) works
-    → GivenUp back_ends true works calls replies why → AreAnswers calls → Divided back_ends works calls (replies ++ why ∷ [])
+    → GivenUp back_ends true works calls replies why → Divided back_ends works calls (replies ++ why ∷ [])
 
 -- ---- between two statements
 
@@ -62,7 +62,7 @@ pub record Closed (back_ends place : ℕ) (works : List Given) (calls : List Cal
 abbrev pub ClosedAreRight : Type 0
 ClosedAreRight =
     (back_ends place : ℕ) (works : List Given) (calls : List Call) (replies : List Reply) (why : Reply) → back_ends ≤ most_back_ends → Each (λ w. IsTrue (is_plain w.1)) works
-    → GivenUp back_ends false works calls replies why → AreAnswers calls → Closed back_ends place works calls replies why
+    → GivenUp back_ends false works calls replies why → Closed back_ends place works calls replies why
 
 -- of such items, too, those that are not idle are right
 abbrev pub ClosedTxnsAreRight : Type 0

@@ -14,7 +14,6 @@ use Rattle.hb_talk.specs.Ends.{fes1}
 use Rattle.hb_talk.specs.Sessions.{transaction}
 use Rattle.hb_talk.specs.Talk.{Follows}
 use Rattle.hb_planlaws.specs.Planned.{most_back_ends}
-use Rattle.hb_faithful.specs.Planned.{AreAnswers}
 use Rattle.hb_law.specs.Callers.{is_begun}
 use Rattle.hb_law.specs.Transactions.{BeginsIt, begins_of, own_items, tx_asked}
 use Rattle.hb_itemlaws.specs.Dividing.{Divided, Given, statements}
@@ -57,7 +56,7 @@ abbrev pub TransactionsAreOwn : Type 0
 TransactionsAreOwn =
     (back_ends : ℕ) (owner : Owner) (work : Given) (works : List Given) (calls : List Call) (replies : List Reply) → back_ends ≤ most_back_ends
     → Each (λ w. IsTrue (is_plain w.1)) (work ∷ works) → Follows false (transaction back_ends owner (statements (work ∷ works))) calls replies
-    → AreAnswers calls → AreBegins calls → begins_of calls ≢ [] → DividedOwn back_ends (work ∷ works) calls replies
+    → AreBegins calls → begins_of calls ≢ [] → DividedOwn back_ends (work ∷ works) calls replies
 
 -- One that was not begun asks nothing of any transaction.
 abbrev pub UnbegunAskNothing : Type 0
@@ -75,12 +74,12 @@ IsBegun owner tx calls = (more : List Call) × (calls ≡ call fes1 (request.Beg
 abbrev pub GivenUpAreOwn : Type 0
 GivenUpAreOwn =
     (back_ends : ℕ) (owner : Owner) (works : List Given) (calls : List Call) (replies : List Reply) (why : Reply) → back_ends ≤ most_back_ends → Each (λ w. IsTrue (is_plain w.1)) works
-    → (g : GivenUp back_ends true works calls replies why) → AreAnswers calls → AreBegins calls → IsBegun owner g.tx calls → (replies ≢ [] → StartsOwn g.tx g.back)
+    → (g : GivenUp back_ends true works calls replies why) → AreBegins calls → IsBegun owner g.tx calls → (replies ≢ [] → StartsOwn g.tx g.back)
     → (d : Divided back_ends works calls (replies ++ why ∷ [])) × AreOwn g.tx d.items
 
 -- And so it is between two, with the rolling back as the last item.
 abbrev pub ClosedAreOwn : Type 0
 ClosedAreOwn =
     (back_ends place : ℕ) (owner : Owner) (works : List Given) (calls : List Call) (replies : List Reply) (why : Reply) → back_ends ≤ most_back_ends → Each (λ w. IsTrue (is_plain w.1)) works
-    → (g : GivenUp back_ends false works calls replies why) → AreAnswers calls → AreBegins calls → IsBegun owner g.tx calls → (replies ≢ [] → StartsOwn g.tx g.back)
+    → (g : GivenUp back_ends false works calls replies why) → AreBegins calls → IsBegun owner g.tx calls → (replies ≢ [] → StartsOwn g.tx g.back)
     → (c : Closed back_ends place works calls replies why) × AreOwn g.tx (c.items ++ closing place c.last why ∷ [])

@@ -12,5 +12,5 @@ reassign-requires-clause-enough c = (spreads c.args.members.now c.args.entries.n
 
 pub returns-clause-marked : goal.returns-clause-marked
 returns-clause-marked c =
-    marked c.args.members.now c.args.area c.args.entries.now c.reassign.new.entries c.requires.sited.0 c.reassign.ensures.change
-    (spreads c.args.members.now c.args.entries.now c.requires.spread).placed
+    marked c.args.area c.args.entries.now c.reassign.new.entries c.requires.sited.0 c.reassign.ensures.change
+    (spreads c.args.members.now c.args.entries.now c.requires.spread).held
