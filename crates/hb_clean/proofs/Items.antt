@@ -69,7 +69,8 @@ in_given r (c ∷ cs) h = by (in_append r (rows_answered c.request c.answer) (gi
     by (inr i) rest = let k = rest i in (k.0, inr k.1, k.2)
 
 -- what a Write of a statement is made of
-made_of : (st : Statement) (rows : List Stored) (q : Request) (p : Place) (bytes : List ℕ) → WriteMade st rows q → Wrote p bytes q → 1 ≤ p.space.area → IsMadeOf st rows p bytes
+made_of : (st : Statement) (rows : List Stored) (q : Request) (p : Place) (bytes : List ℕ) → WriteMade st rows q → Wrote p bytes q
+    → 1 ≤ p.space.area → IsMadeOf st rows p bytes
 made_of st rows (request.Write tx c) p bytes m w user =
     subst (λ z. RowMade st rows p z) w.1 (subst (λ z. RowMade st rows z c.row) (sym w.0) m) user
 made_of st rows q p bytes m w user = absurd w
@@ -114,13 +115,16 @@ module _ (base logs : Logs) where
 
   bare_clean : (own : List Item) (calls : List Call) → of_rows calls ≡ [] → Each (WroteClean own) calls
   bare_clean own [] e = tt
-  bare_clean own (c ∷ cs) e = by_test (is_of_rows c.request) (λ t. absurd (some (rw t at e))) (λ f. (λ p bytes row wr. absurd (false≢true (sym f ∙ wrote_rows c.request p bytes wr)), bare_clean own cs (rw f at e)))
+  bare_clean own (c ∷ cs) e =
+      by_test (is_of_rows c.request) (λ t. absurd (some (rw t at e)))
+      (λ f. (λ p bytes row wr. absurd (false≢true (sym f ∙ wrote_rows c.request p bytes wr)), bare_clean own cs (rw f at e)))
     where
       some : c ∷ of_rows cs ≡ [] → ⊥
       some h = cc
 
   -- a reply that shows no rows
-  by_rows : (own : List Item) (d : Doing) (r : Reply) → ((rows : List (List Value)) → r ≡ reply.Rows rows → RowsClean base logs own d (reply.Rows rows)) → RowsClean base logs own d r
+  by_rows : (own : List Item) (d : Doing) (r : Reply) → ((rows : List (List Value)) → r ≡ reply.Rows rows → RowsClean base logs own d (reply.Rows rows))
+      → RowsClean base logs own d r
   by_rows own (sql (statement.Select w table pred)) (reply.Rows rows) f = f rows refl
   by_rows own (sql (statement.Select w table pred)) r f = tt
   by_rows own d (reply.Rows rows) f = f rows refl
@@ -161,7 +165,8 @@ module _ (base logs : Logs) where
 
     -- ---- one item
 
-    module _ (own : List Item) (past : List Call) (i : Item) (more : List Call) (e : all ≡ past ++ (i.calls ++ more)) (bound : IsBoundItem i) (kind : IsOfStatements i.doing) (w : Each (WroteClean own) past) where
+    module _ (own : List Item) (past : List Call) (i : Item) (more : List Call) (e : all ≡ past ++ (i.calls ++ more))
+        (bound : IsBoundItem i) (kind : IsOfStatements i.doing) (w : Each (WroteClean own) past) where
       abbrev doing_so : Doing → Item
       doing_so d = record { place = i.place; doing = d; calls = i.calls; lines = i.lines }
 
@@ -178,7 +183,8 @@ module _ (base logs : Logs) where
           let b : IsBoundStatement st i.calls i.lines = subst (λ z. IsBoundItem (doing_so z)) d bound in
           (in_Each (IsReplyTo st i.calls) r i.lines m (bound_other st i.calls i.lines n b)).sourced here_asked
 
-      writes_of_it : (then : List Item) (st : Statement) → i.doing ≡ sql st → IsIn i then ⊎ IsTrue (is_select st) → Each (WroteClean then) past → (r : Reply) → Sourced st i.calls r
+      writes_of_it : (then : List Item) (st : Statement) → i.doing ≡ sql st → IsIn i then ⊎ IsTrue (is_select st) → Each (WroteClean then) past
+          → (r : Reply) → Sourced st i.calls r
           → Each (WroteClean then) (past ++ i.calls)
       writes_of_it then st d k before r s =
           writes_clean then i st d k past [] i.calls more start s.written (subst (Each (WroteClean then)) (sym (append-nil past)) before)
@@ -207,7 +213,9 @@ module _ (base logs : Logs) where
           by (turn table most) q b t = absurd t
           by tending q b t = bare_behind b.1.0
 
-      shown_clean : (st : Statement) → i.doing ≡ sql st → (r : Reply) → IsIn r i.lines → (rows : List (List Value)) → r ≡ reply.Rows rows → st ≢ statement.Commit → IsBoundStatement st i.calls i.lines
+      shown_clean : (st : Statement) → i.doing ≡ sql st → (r : Reply) → IsIn r i.lines
+          → (rows : List (List Value)) → r ≡ reply.Rows rows
+          → st ≢ statement.Commit → IsBoundStatement st i.calls i.lines
           → RowsClean base logs own (sql st) (reply.Rows rows)
       shown_clean st d r m rows q n b =
           let reply_is : IsReplyTo st i.calls r = in_Each (IsReplyTo st i.calls) r i.lines m (bound_other st i.calls i.lines n b) in
@@ -222,14 +230,16 @@ module _ (base logs : Logs) where
         where
           cleanly : GivenClean own (given i.calls) → (shown : List Value) → IsShownOf (given i.calls) shown → IsCleanly base logs own shown
           cleanly clean shown h =
-              let f = found (λ r. IsUsers r × ((row : List Value) × (positions : List ℕ) × (values_in r.row ≡ Some row) × IsSelection row positions shown)) (given i.calls) h in
+              let f = found
+              (λ r. IsUsers r × ((row : List Value) × (positions : List ℕ) × (values_in r.row ≡ Some row) × IsSelection row positions shown)) (given i.calls) h in
               (f.2.1.0, f.2.1.1, clean f.0 f.1 f.2.0 f.2.1.0 f.2.1.2, f.2.1.3)
 
       -- what it shows is clean
       shows : length i.lines ≤ 1 → Each (RowsClean base logs own i.doing) i.lines
       shows few = Each-in (RowsClean base logs own i.doing) i.lines (λ r m. by_rows own i.doing r (λ rows q. by i.doing refl bound kind r m rows q))
         where
-          by : (d : Doing) → i.doing ≡ d → IsBoundItem (doing_so d) → IsOfStatements d → (r : Reply) → IsIn r i.lines → (rows : List (List Value)) → r ≡ reply.Rows rows
+          by : (d : Doing) → i.doing ≡ d → IsBoundItem (doing_so d) → IsOfStatements d → (r : Reply) → IsIn r i.lines
+              → (rows : List (List Value)) → r ≡ reply.Rows rows
               → RowsClean base logs own d (reply.Rows rows)
           by (sql st) d b t r m rows q = statement_of (commit_or st)
             where
@@ -248,7 +258,8 @@ module _ (base logs : Logs) where
 
     -- ---- all items
 
-    pub all_clean : (own : List Item) (past : List Call) (is : List Item) → all ≡ past ++ calls_of is → Each IsBoundItem is → Each (λ i. IsOfStatements i.doing) is → AllAnswered is
+    pub all_clean : (own : List Item) (past : List Call) (is : List Item) → all ≡ past ++ calls_of is → Each IsBoundItem is
+        → Each (λ i. IsOfStatements i.doing) is → AllAnswered is
         → Each (WroteClean own) past
         → EachBehind (λ own i. Each (RowsClean base logs own i.doing) i.lines) own is
     all_clean own past [] e b k a w = tt

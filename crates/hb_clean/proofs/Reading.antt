@@ -103,7 +103,8 @@ one_more : (n : ℕ) → suc n ≡ n + 1
 one_more n = omega arith
 
 module _ (base logs : Logs) (trails : Trails) (lists : List (List Call)) (fes : List Labelled) (k : Callings base logs trails lists) (at : slice_get trails 0 ≡ Some fes) where
-  pub scan_only : (c : ℕ) (list : List Call) (x : Call) → slice_get lists c ≡ Some list → IsIn x list → (rows : List Stored) → x.answer ≡ answer.Rows rows → IsScan x.request
+  pub scan_only : (c : ℕ) (list : List Call) (x : Call) → slice_get lists c ≡ Some list → IsIn x list
+      → (rows : List Stored) → x.answer ≡ answer.Rows rows → IsScan x.request
   scan_only c list x h i rows e =
       let sys : IsOfSystem x = in_Each IsOfSystem x list i (each_got (λ l. Each IsOfSystem l) lists c list k.system h) in
       let tells : IsTrue (tells_nothing x.answer) → ⊥ = λ n. false≢true (subst (λ a. IsTrue (tells_nothing a)) e n) in
@@ -224,7 +225,8 @@ under_of (request.Scan tx p) (answer.Rows rows) f g = f tx p rows refl refl
 under_of (request.ScanGroup tx p gr) (answer.Rows rows) f g = g tx p gr rows refl refl
 under_of q a f g = tt
 
-pub scan_of : (G : Type 0) (q : Request) → IsScan q → ((tx : Tx) (p : Space) → q ≡ request.Scan tx p → G) → ((tx : Tx) (p : Space) (g : ℕ) → q ≡ request.ScanGroup tx p g → G) → G
+pub scan_of : (G : Type 0) (q : Request) → IsScan q → ((tx : Tx) (p : Space) → q ≡ request.Scan tx p → G)
+    → ((tx : Tx) (p : Space) (g : ℕ) → q ≡ request.ScanGroup tx p g → G) → G
 scan_of G (request.Scan tx p) s f g = f tx p refl
 scan_of G (request.ScanGroup tx p gr) s f g = g tx p gr refl
 scan_of G q s f g = absurd s
@@ -321,7 +323,8 @@ module _ (laws : Laws) (base logs : Logs) (trails : Trails) (lists : List (List 
           → Each (λ q. q.tx ≢ t → touches p q.changes ≡ false) (now h.reached).doubts → Came p row
       came_from p row (inl own) free = inl (was_written p row t x.node.0 done (subst (λ ws. last_at p ws None ≡ Some row) h.writes own))
       came_from p row (inr last) free =
-          let s : StoodOnce (whole h.server.before h.run.last) (decided base) (decided base ++ further) p row = laws.stood h.server.before (end_behind 0 h.server.before) h.ahead (asked_by x ∷ h.behind) h.reached h.run.last (decided base) further t p row h.all h.before h.on numbers
+          let s : StoodOnce (whole h.server.before h.run.last) (decided base) (decided base ++ further) p row =
+          laws.stood h.server.before (end_behind 0 h.server.before) h.ahead (asked_by x ∷ h.behind) h.reached h.run.last (decided base) further t p row h.all h.before h.on numbers
           (subst AreDecisions grows right.decisions) apart voted last free in
           inr
           (record {
