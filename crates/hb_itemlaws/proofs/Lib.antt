@@ -9,4 +9,5 @@ pub mod Dividing
 pub mod OwnItems
 pub mod GivingUp
 pub mod Kept
+pub mod Naming
 mod Idle
