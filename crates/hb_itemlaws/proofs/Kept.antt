@@ -10,14 +10,15 @@ use Rattle.hb_types.proofs.Ascending.{Each-append, Each-back, Each-front}
 use Rattle.hb_model.specs.declared.reply.Reply.{Reply}
 use Rattle.hb_model.specs.declared.statement.Statement.{Statement}
 use Rattle.hb_model.specs.declared.statement.Statement.TheVariants as statement
-use Rattle.hb_model.specs.Items.{Doing, Item, Spent, spending, sql}
+use Rattle.hb_model.specs.Items.{Doing, Item, Spent, spending, sql, tending}
 use Rattle.hb_faithful.specs.Planned.{is_planned}
 use Rattle.hb_law.specs.Transactions.{AllAnswered, AreRight, BeginsWell, FirstBeginsWell, IsBoundItem, IsOfStatements, NamesOwner, is_idle, own_items}
 use Rattle.hb_itemlaws.specs.Dividing.{AreItemsOf, Divided, Given}
 use Rattle.hb_itemlaws.specs.GivingUp.{Closed, closing}
 use Rattle.hb_itemlaws.specs.Owning.{AreOwn}
-use Rattle.hb_itemlaws.specs.Txns.{ClosedTxnsAreRight, NameOwner, TxnsAreRight}
+use Rattle.hb_itemlaws.specs.Txns.{ClosedTxnsAreRight, NameOwner, TellsOwn, TxnsAreRight}
 use Rattle.hb_itemlaws.proofs.Idle.{idle_asks_none}
+use Rattle.hb_itemlaws.proofs.Showing.{items_tell, line_tells, outside_tells}
 
 -- ---- what holds of each item holds of those that are not idle
 
@@ -142,11 +143,12 @@ txns_right back_ends tx owner w ws calls replies planned n d own = record {
     named = each_kept (λ i. Each (NamesOwner owner) i.lines) d.items (named_lines owner (w ∷ ws) replies d.items d.each n);
     begins = begun_well back_ends tx owner w ws calls replies planned d own;
   };
+  tells = items_tell (w ∷ ws) replies d.items d.each d.bound;
 }
 
 -- a rolling back behind them, with its line
 pub closed_txns_right : ClosedTxnsAreRight
-closed_txns_right back_ends tx place owner w ws calls replies why planned some n c own =
+closed_txns_right back_ends tx place owner w ws calls replies why planned outside some n c own =
     let closes : List Item = closing place c.last why ∷ [] in
     let items : List Item = c.items ++ closes in
     record {
@@ -161,4 +163,6 @@ closed_txns_right back_ends tx place owner w ws calls replies why planned some n
         named = each_kept (λ i. Each (NamesOwner owner) i.lines) items (closed_names back_ends tx owner w ws calls replies planned place why c n);
         begins = begins_well tx w ws replies c.items closes planned c.each own (some_closed back_ends tx owner w ws calls replies planned place why c some);
       };
+      tells = Each-append TellsOwn c.items closes (items_tell (w ∷ ws) replies c.items c.each (Each-front IsBoundItem c.items closes c.bound))
+          (line_tells place tending c.last why (outside_tells c.last why outside), tt);
     }

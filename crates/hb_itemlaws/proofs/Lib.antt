@@ -10,4 +10,5 @@ pub mod OwnItems
 pub mod GivingUp
 pub mod Kept
 pub mod Naming
+pub mod Showing
 mod Idle

@@ -2,7 +2,7 @@
 ghost use Rattle.hb_itemlaws.specs.Dividing.{TransactionsAreRight};
 ghost use Rattle.hb_itemlaws.specs.GivingUp.{ClosedAreRight, GivenUpAreRight};
 ghost use Rattle.hb_itemlaws.specs.Owning.{ClosedAreOwn, GivenUpAreOwn, TransactionsAreOwn, UnbegunAskNothing};
-ghost use Rattle.hb_itemlaws.specs.Txns.{ClosedHadReplies, ClosedTxnsAreRight, GivenUpNameOwner, TransactionsNameOwner, TxnsAreRight};
+ghost use Rattle.hb_itemlaws.specs.Txns.{ClosedHadReplies, ClosedTxnsAreRight, GivenUpNameOwner, TransactionsNameOwner, TxnsAreRight, UnbegunAreLoose};
 
 /// What a session asks and shows in a transaction of plain statements, from its Begin to its end, is made of items, one for each
 /// statement that had its reply, and each is right by what was spent before it: it is faithful, or it is a COMMIT that tells what was
@@ -58,6 +58,11 @@ pub fn transactions_are_own()
 /// What was not begun asks nothing of any transaction.
 pub fn unbegun_ask_nothing()
     ensures { UnbegunAskNothing }
+{}
+
+/// It had one reply, and with it is an item of no transaction.
+pub fn unbegun_are_loose()
+    ensures { UnbegunAreLoose }
 {}
 
 /// So it is with the items of a transaction that is given up amid a statement.

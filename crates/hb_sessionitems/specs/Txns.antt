@@ -18,7 +18,7 @@ use Rattle.hb_law.specs.Transactions.{begins_of}
 use Rattle.hb_itemlaws.specs.Dividing.{Divided, Given, statements}
 use Rattle.hb_itemlaws.specs.GivingUp.{Closed, closing}
 use Rattle.hb_itemlaws.specs.Owning.{AreBegins}
-use Rattle.hb_itemlaws.specs.Txns.{AreRightItems}
+use Rattle.hb_itemlaws.specs.Txns.{AreLoose, AreRightItems}
 use Rattle.hb_sessionitems.specs.GivingUp.{GivesUp, InTurn, RunsToEnd}
 use Rattle.hb_sessionitems.specs.Owning.{Obeyed}
 
@@ -49,3 +49,10 @@ ClosedSessionsAreTxns =
     → Each (λ w. IsTrue (is_plain w.1)) (work ∷ works) → IsTrue (is_planned work.1) → old.stage ≡ stage.Idle → (runs : Runs old (statements (work ∷ works)) calls replies last)
     → InTurn runs → Closes last.stage new → RunsToEnd new rolled r → AreAnswers (calls ++ rolled) → AreBegins (calls ++ rolled) → Obeyed old (calls ++ rolled)
     → (c : Closed old.back_ends place (work ∷ works) (calls ++ rolled) replies r) × (tx : ℕ) × AreRightItems old.back_ends (next_owner old) tx (c.items ++ closing place c.last r ∷ [])
+
+-- One that was not begun had one reply, with which it is an item of no transaction.
+abbrev pub UnbegunSessionsAreLoose : Type 0
+UnbegunSessionsAreLoose =
+    (old last new : Sitting) (work : Given) (works : List Given) (calls : List Call) (replies : List Reply) → old.stage ≡ stage.Idle
+    → Runs old (statements (work ∷ works)) calls replies last → (p : Pending) (a : Answer) (r : Reply) → Asks last new p a (progress.Ended r)
+    → begins_of (calls ++ call_of p a ∷ []) ≡ [] → AreLoose (calls ++ call_of p a ∷ []) (replies ++ r ∷ [])
