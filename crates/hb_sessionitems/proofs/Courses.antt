@@ -1,6 +1,6 @@
 -- Courses: one call of a plan's course is one of the whole, and a course comes to an end.
-use Rattle.std.proofs.Common.{◌≡◌, ℕ, List, [], ◌∷◌, ◌++◌, Bool, true, false, Option, Some, None, Ok, Err, Result, refl, subst, sym, ap, ◌∙◌}
-use Rattle.std.specs.Prelude.{IsTrue, ⊤, ◌&&◌, if◌then◌else◌}
+use Rattle.std.proofs.Common.{◌≡◌, List, [], ◌∷◌, Bool, true, false, Some, None, Ok, Err, Result, refl, subst, sym, ap}
+use Rattle.std.specs.Prelude.{if◌then◌else◌}
 use Rattle.std.proofs.lemmas.Bool.{false≢true}
 use Rattle.hb_types.specs.declared.answer.Answer.{Answer}
 use Rattle.hb_types.specs.declared.answer.Answer.TheVariants as answer
@@ -11,8 +11,8 @@ use Rattle.hb_types.specs.declared.trail.Call.{Call}
 use Rattle.hb_model.specs.Answers.{call}
 use Rattle.hb_model.specs.declared.reply.Reply.{Reply}
 use Rattle.hb_talk.specs.Ends.{rolling_back}
-use Rattle.hb_talk.specs.Sessions.{after, rolls_back, with_reply}
-use Rattle.hb_talk.specs.Talk.{Talk, says, asks, going_on, Follows, asked, dies, ready, Use, mgr}
+use Rattle.hb_talk.specs.Sessions.{after, with_reply}
+use Rattle.hb_talk.specs.Talk.{Talk, says, asks, going_on, asked, dies, ready, Use, mgr}
 use Rattle.hb_faithful.specs.Planned.{is_rolled_back}
 use Rattle.hb_plan.specs.Planned.{Said}
 use Rattle.hb_plancalc.specs.Counted.{reply_in}

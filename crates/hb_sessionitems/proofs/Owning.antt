@@ -1,5 +1,5 @@
 -- Which of the items of a session's transaction begins it, and which ask something of it.
-use Rattle.std.proofs.Common.{◌≡◌, ℕ, List, [], ◌∷◌, ◌++◌, Some, Bool, true, false, refl, subst, sym, ap, ◌∙◌}
+use Rattle.std.proofs.Common.{◌≡◌, ℕ, List, [], ◌∷◌, ◌++◌, Some, Bool, true, false, subst, sym, ap, ◌∙◌}
 use Rattle.std.specs.Prelude.{IsTrue, ◌≢◌}
 use Rattle.std.proofs.lemmas.List.{append_assoc}
 use Rattle.hb_types.specs.declared.answer.Answer.TheVariants as answer

@@ -1,5 +1,5 @@
 -- Where a session's transaction stands by its talk, whatever statements follow, and how far it came from there.
-use Rattle.std.proofs.Common.{◌≡◌, ℕ, List, [], ◌∷◌, ◌++◌, Bool, true, false, Ok, Err, Result, refl, subst, sym, ap, ◌∙◌}
+use Rattle.std.proofs.Common.{◌≡◌, ℕ, List, [], ◌∷◌, ◌++◌, Bool, true, false, Result, subst, sym, ap}
 use Rattle.std.specs.Prelude.{IsTrue, ◌≢◌}
 use Rattle.hb_types.specs.declared.answer.Answer.TheVariants as answer
 use Rattle.hb_types.specs.declared.names.Tx.{Tx}

@@ -1,5 +1,5 @@
 -- What one step of a session makes of where its transaction stands.
-use Rattle.std.proofs.Common.{◌≡◌, ℕ, List, [], ◌∷◌, ◌++◌, Bool, true, false, Some, refl, subst, sym, ap, ◌∙◌}
+use Rattle.std.proofs.Common.{◌≡◌, ℕ, List, [], ◌∷◌, Bool, true, false, Some, refl, subst, sym, ap, ◌∙◌}
 use Rattle.std.specs.Prelude.{unwrap_or}
 use Rattle.std.proofs.lemmas.Bool.{false≢true}
 use Rattle.std.proofs.lemmas.List.{append-nil}
@@ -14,11 +14,11 @@ use Rattle.hb_model.specs.declared.statement.Statement.{Statement}
 use Rattle.hb_talk.specs.Ends.{fes1, rolling_back}
 use Rattle.hb_talk.specs.Moves.{fresh}
 use Rattle.hb_talk.specs.Sessions.{after, transaction, with_reply}
-use Rattle.hb_talk.specs.Talk.{Talk, says, asks, Use, mgr, refusal_of}
+use Rattle.hb_talk.specs.Talk.{says, asks, mgr, refusal_of}
 use Rattle.hb_faithful.specs.Planned.{is_rolled_back}
 use Rattle.hb_plan.specs.Planned.{Said}
 use Rattle.hb_plancalc.specs.Counted.{reply_in}
-use Rattle.hb_wait.specs.Courses.{Course, free, halted, next_in, by_heard, after_call, FollowsIn, IsExpected}
+use Rattle.hb_wait.specs.Courses.{Course, free, halted, next_in, by_heard, after_call}
 use Rattle.hb_wait.specs.declared.pending.Pending.{Pending}
 use Rattle.hb_wait.specs.declared.pending.Pending.TheVariants as pending
 use Rattle.hb_wait.proofs.Following.{leads}
@@ -28,7 +28,6 @@ use Rattle.hb_session.specs.Runs.{Asks, call_of, is_end}
 use Rattle.hb_session.specs.Sitting.{Sitting, answered, finishing, is_busy, next_owner, opening, stands}
 use Rattle.hb_session.specs.Steps.{Gives, Leads, LeavesAs, said}
 use Rattle.hb_itemlaws.specs.Dividing.{Given}
-use Rattle.hb_itemlaws.specs.GivingUp.{LeftOff}
 use Rattle.hb_itemlaws.proofs.Ends.{undone_ends}
 use Rattle.hb_sessionitems.proofs.Courses.{EndsOnly, after_kept, after_undone, end_heard, into, into_after, into_next, is_said, none_is_some, words_of}
 use Rattle.hb_sessionitems.proofs.Positions.{At, LeftAt, LeftBegun, LeftFrom, LeftIn, Onto, amid_at, begins_at, ends_at, enters_at, going_at, left_before, none_at, open_at}
@@ -115,7 +114,7 @@ module _ (old m n : Sitting) (amidst : Bool) (shows : Progress) (leaves : Leaves
             asked = calls;
             late = [];
             parts = ap (λ z. call mgr (request.Enter tx (next_owner old)) answer.Done ∷ z) (sym (append-nil calls));
-            opens = record { beside = (refl, tt); no_rows = refl };
+            opens = record { beside = (refl, tt); no_rows = refl; undoes_none = (refl, tt) };
             beside = tt;
             front_begins = (refl, tt);
             late_begins = tt;
