@@ -22,13 +22,13 @@ use Rattle.hb_model.specs.Locking.{OfLock}
 use Rattle.hb_model.specs.Needs.{Need}
 use Rattle.hb_talk.specs.Plans.{some_or, writes}
 use Rattle.hb_talk.specs.Talk.{Begins, Talk, Use, Planning, Follows, ◌>>=◌, lock, read, scan, scan_group, refuse, the_tx}
-use Rattle.hb_planlocks.proofs.Course.{Rule, is_free, all_told, begins_rightly, follows_rightly}
+use Rattle.hb_planlocks.proofs.Course.{Rule, is_free, begins_rightly, follows_rightly}
 use Rattle.hb_planlocks.proofs.Course as course
 
 module _ (M : List Stored → Need → Type 0) where
   -- each lock may be asked for by the rows that were answered before
   abbrev pub locks : Rule
-  locks = record { May = λ g node q. OfLock (M g) node q; Known = λ r. ⊤; Refused = λ r. ⊤; free = free; refusals = λ node a. tt; too_much = tt }
+  locks = record { May = λ g node q. OfLock (M g) node q; Refused = λ r. ⊤; free = free; refusals = λ node a. tt; too_much = tt }
     where
       free : (g : List Stored) (node : ℕ) (q : Request) → IsTrue (is_free q) → OfLock (M g) node q
       free g node q = elim q as (λ x. IsTrue (is_free x) → OfLock (M g) node x) [ request.Lock tx p m ↦ λ h. absurd (false≢true h) | x ↦ λ h. tt ]
@@ -38,11 +38,11 @@ module _ (M : List Stored → Need → Type 0) where
 
   pub rightly : {R : Type 0} → (b : Bool) (t : Talk R) (cs : List Call) (r : R) → Follows b t cs r → (before : List Call) (Q : List Stored → R → Type 0)
       → Bears t (given before) Q → AreWhereAsked cs → EachBehind (λ front c. OfLock (M (given front)) c.node.0 c.request) before cs
-  rightly b t cs r f before Q w h = (follows_rightly locks b t cs r f before Q w (all_told locks cs h (Each-in (λ r. ⊤) (given cs) (λ r i. tt)))).asked_rightly
+  rightly b t cs r f before Q w h = (follows_rightly locks b t cs r f before Q w h).asked_rightly
 
   pub begins_by : {R : Type 0} → (t : Talk R) (cs : List Call) → Begins t cs → (before : List Call) (Q : List Stored → R → Type 0) → Bears t (given before) Q → AreWhereAsked cs
       → EachBehind (λ front c. OfLock (M (given front)) c.node.0 c.request) before cs
-  begins_by t cs begins before Q w h = begins_rightly locks t cs begins before Q w (all_told locks cs h (Each-in (λ r. ⊤) (given cs) (λ r i. tt)))
+  begins_by t cs begins before Q w h = begins_rightly locks t cs begins before Q w h
 
   -- ---- plans
 
@@ -62,15 +62,15 @@ module _ (M : List Stored → Need → Type 0) where
 
   pub bears_read : (node : ℕ) (place : Place) (u : Use) (g : List Stored) (Q : List Stored → Option (List ℕ) → Type 0)
       → ((row : Option (List ℕ)) → Q (g ++ rows_answered (request.Read (the_tx u) place) (answer.Row row)) row) → Bearing (read node place) u g Q
-  bears_read node place u g Q q = course.bears_read locks node place u g Q (λ row k. q row)
+  bears_read node place u g Q q = course.bears_read locks node place u g Q q
 
   pub bears_scan : (node : ℕ) (space : Space) (u : Use) (g : List Stored) (Q : List Stored → List Stored → Type 0)
       → ((rows : List Stored) → AreUnder (path.Whole space) rows → Q (g ++ rows) rows) → Bearing (scan node space) u g Q
-  bears_scan node space u g Q q = course.bears_scan locks node space u g Q (λ rows under k. q rows under)
+  bears_scan node space u g Q q = course.bears_scan locks node space u g Q q
 
   pub bears_scan_group : (node : ℕ) (space : Space) (group : ℕ) (u : Use) (g : List Stored) (Q : List Stored → List Stored → Type 0)
       → ((rows : List Stored) → AreUnder (path.Group space group) rows → Q (g ++ rows) rows) → Bearing (scan_group node space group) u g Q
-  bears_scan_group node space group u g Q q = course.bears_scan_group locks node space group u g Q (λ rows under k. q rows under)
+  bears_scan_group node space group u g Q q = course.bears_scan_group locks node space group u g Q q
 
   pub bears_refuse : (o : Option Reply) (u : Use) (g : List Stored) (Q : List Stored → Unit {0} → Type 0) → Q g tt → Bearing (refuse o) u g Q
   bears_refuse o u g Q q = course.bears_refuse locks o u g Q (λ r e. tt) q

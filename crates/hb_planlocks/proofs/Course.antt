@@ -51,25 +51,19 @@ is_free (request.Lock tx p m) = false
 is_free (request.Write tx c) = false
 is_free _ = true
 
--- what a course keeps to: what may be asked for at a node by the rows that were answered before, what is known of each row that
--- is answered, and what is so of each refusal
+-- what a course keeps to: what may be asked for at a node by the rows that were answered before, and what is so of each refusal
 pub record Rule : Type 1 where
   pub May : List Stored → ℕ → Request → Type 0
-  pub Known : Stored → Type 0
   pub Refused : Reply → Type 0
   pub free : (g : List Stored) (node : ℕ) (q : Request) → IsTrue (is_free q) → May g node q
   pub refusals : (node : ℕ) (a : Answer) → Refused (refusal_of node a)
   pub too_much : Refused reply.TooMuch
 
 module _ (R : Rule) where
-  -- an answer with rows where they were asked for, of which this is known
-  abbrev pub Told : Request → Answer → Type 0
-  Told q a = IsWhereAsked q a × Each R.Known (rows_answered q a)
-
   -- each request may be asked by the rows that were answered before, and this holds in the end
   abbrev pub Bears : {A : Type 0} → Talk A → List Stored → (List Stored → A → Type 0) → Type 0
   Bears (says r) g Q = Q g r
-  Bears (asks node q k) g Q = R.May g node q × ((a : Answer) → Told q a → Bears (k a) (g ++ rows_answered q a) Q)
+  Bears (asks node q k) g Q = R.May g node q × ((a : Answer) → IsWhereAsked q a → Bears (k a) (g ++ rows_answered q a) Q)
 
   bears_bind : {A B : Type 0} → (t : Talk A) (f : A → Talk B) (g : List Stored) (Q : List Stored → B → Type 0) → Bears t g (λ h a. Bears (f a) h Q) → Bears (going_on f t) g Q
   bears_bind (says a) f g Q w = w
@@ -80,14 +74,6 @@ module _ (R : Rule) where
   bears_weaker (asks node q k) g P Q i w = (w.0, λ a h. bears_weaker (k a) (g ++ rows_answered q a) P Q i (w.1 a h))
 
   -- ---- calls that follow
-
-  abbrev pub AllTold : List Call → Type 0
-  AllTold calls = Each (λ c. Told c.request c.answer) calls
-
-  pub all_told : (calls : List Call) → AreWhereAsked calls → Each R.Known (given calls) → AllTold calls
-  all_told [] w k = tt
-  all_told (c ∷ cs) w k =
-      ((w.0, Each-front R.Known (rows_answered c.request c.answer) (given cs) k), all_told cs w.1 (Each-back R.Known (rows_answered c.request c.answer) (given cs) k))
 
   -- each of these calls may be asked for behind the calls before it, and this holds of all the rows that were answered
   pub record Course {A : Type 0} (before calls : List Call) (Q : List Stored → A → Type 0) (r : A) : Type 0 where
@@ -104,13 +90,13 @@ module _ (R : Rule) where
 
   -- what ends a wait gives no rows, to the Lock and to the Wait
   ended : (tx : Tx) (node : ℕ) (p path : Path) (m wanted : Mode) (holders : List Holder) (a : Answer) → IsTrue (is_end_of_wait a)
-      → Told (request.Lock tx p m) a × (rows_answered (request.Lock tx p m) a ≡ []) × (rows_answered (request.Wait tx (record { 0 = node }) path wanted holders) a ≡ [])
-  ended tx node p path m wanted holders (answer.Cycle edges) e = ((tt, tt), refl, refl)
-  ended tx node p path m wanted holders answer.NoMemory e = ((tt, tt), refl, refl)
+      → IsWhereAsked (request.Lock tx p m) a × (rows_answered (request.Lock tx p m) a ≡ []) × (rows_answered (request.Wait tx (record { 0 = node }) path wanted holders) a ≡ [])
+  ended tx node p path m wanted holders (answer.Cycle edges) e = (tt, refl, refl)
+  ended tx node p path m wanted holders answer.NoMemory e = (tt, refl, refl)
   ended tx node p path m wanted holders _ e = absurd (false≢true e)
 
   pub follows_rightly : {A : Type 0} → (b : Bool) (t : Talk A) (cs : List Call) (r : A) → Follows b t cs r → (before : List Call) (Q : List Stored → A → Type 0)
-      → Bears t (given before) Q → AllTold cs → Course before cs Q r
+      → Bears t (given before) Q → AreWhereAsked cs → Course before cs Q r
   follows_rightly _ _ _ _ (ends {r}) before Q w h = record { asked_rightly = tt; said = subst (λ xs. Q (given xs) r) (sym (append-nil before)) w }
   follows_rightly _ _ _ _ (asked {node} {q} {k} {cs} {r} a n f) before Q w h =
       let c = call node q a in
@@ -143,7 +129,7 @@ module _ (R : Rule) where
 
   -- the first calls of those that follow
   firsts_rightly : {A : Type 0} → (n : ℕ) (b : Bool) (t : Talk A) (cs : List Call) (r : A) → Follows b t cs r → (before : List Call) (Q : List Stored → A → Type 0)
-      → Bears t (given before) Q → AllTold (firsts n cs) → EachBehind (λ front c. R.May (given front) c.node.0 c.request) before (firsts n cs)
+      → Bears t (given before) Q → AreWhereAsked (firsts n cs) → EachBehind (λ front c. R.May (given front) c.node.0 c.request) before (firsts n cs)
   firsts_rightly zero b t cs r f before Q w h = tt
   firsts_rightly (suc n) _ _ _ _ ends before Q w h = tt
   firsts_rightly (suc n) _ _ _ _ (asked {node} {q} {k} {cs} {r} a i f) before Q w h =
@@ -190,11 +176,11 @@ module _ (R : Rule) where
       let one = call mgr (request.Ready tx) answer.Ready in
       (R.free (given before) mgr one.request refl, firsts_rightly n false t cs r f (before ++ one ∷ []) Q (still t before one Q refl w) h.1)
 
-  pub begins_rightly : {A : Type 0} → (t : Talk A) (cs : List Call) → Begins t cs → (before : List Call) (Q : List Stored → A → Type 0) → Bears t (given before) Q → AllTold cs
+  pub begins_rightly : {A : Type 0} → (t : Talk A) (cs : List Call) → Begins t cs → (before : List Call) (Q : List Stored → A → Type 0) → Bears t (given before) Q → AreWhereAsked cs
       → EachBehind (λ front c. R.May (given front) c.node.0 c.request) before cs
   begins_rightly t cs (more, r, f) before Q w h =
       subst (λ xs. EachBehind (λ front c. R.May (given front) c.node.0 c.request) before xs) (firsts_are cs more)
-      (firsts_rightly (length cs) false t (cs ++ more) r f before Q w (subst AllTold (sym (firsts_are cs more)) h))
+      (firsts_rightly (length cs) false t (cs ++ more) r f before Q w (subst AreWhereAsked (sym (firsts_are cs more)) h))
 
   -- ---- plans
 
@@ -241,28 +227,28 @@ module _ (R : Rule) where
       cases v false = bears_done node (request.Lock (the_tx v) p m) (record v { locks = v.locks + 1 }) g Q (may (the_tx v)) q
 
   pub bears_read : (node : ℕ) (place : Place) (u : Use) (g : List Stored) (Q : List Stored → Option (List ℕ) → Type 0)
-      → ((row : Option (List ℕ)) → Each R.Known (rows_answered (request.Read (the_tx u) place) (answer.Row row)) → Q (g ++ rows_answered (request.Read (the_tx u) place) (answer.Row row)) row)
+      → ((row : Option (List ℕ)) → Q (g ++ rows_answered (request.Read (the_tx u) place) (answer.Row row)) row)
       → Bearing (read node place) u g Q
   bears_read node place u g Q q = (
     R.free g node (request.Read (the_tx u) place) refl,
-    λ a. elim a as (λ x. Told (request.Read (the_tx u) place) x → Goes Q (g ++ rows_answered (request.Read (the_tx u) place) x) (met node x (the_row x), u))
-        [ answer.Row row ↦ λ h. q row h.1 | x ↦ λ h. R.refusals node x ],
+    λ a. elim a as (λ x. IsWhereAsked (request.Read (the_tx u) place) x → Goes Q (g ++ rows_answered (request.Read (the_tx u) place) x) (met node x (the_row x), u))
+        [ answer.Row row ↦ λ h. q row | x ↦ λ h. R.refusals node x ],
   )
 
   pub bears_scan : (node : ℕ) (space : Space) (u : Use) (g : List Stored) (Q : List Stored → List Stored → Type 0)
-      → ((rows : List Stored) → AreUnder (path.Whole space) rows → Each R.Known rows → Q (g ++ rows) rows) → Bearing (scan node space) u g Q
+      → ((rows : List Stored) → AreUnder (path.Whole space) rows → Q (g ++ rows) rows) → Bearing (scan node space) u g Q
   bears_scan node space u g Q q = (
     R.free g node (request.Scan (the_tx u) space) refl,
-    λ a. elim a as (λ x. Told (request.Scan (the_tx u) space) x → Goes Q (g ++ rows_answered (request.Scan (the_tx u) space) x) (met node x (the_rows x), u))
-        [ answer.Rows rows ↦ λ h. q rows h.0 h.1 | x ↦ λ h. R.refusals node x ],
+    λ a. elim a as (λ x. IsWhereAsked (request.Scan (the_tx u) space) x → Goes Q (g ++ rows_answered (request.Scan (the_tx u) space) x) (met node x (the_rows x), u))
+        [ answer.Rows rows ↦ λ h. q rows h | x ↦ λ h. R.refusals node x ],
   )
 
   pub bears_scan_group : (node : ℕ) (space : Space) (group : ℕ) (u : Use) (g : List Stored) (Q : List Stored → List Stored → Type 0)
-      → ((rows : List Stored) → AreUnder (path.Group space group) rows → Each R.Known rows → Q (g ++ rows) rows) → Bearing (scan_group node space group) u g Q
+      → ((rows : List Stored) → AreUnder (path.Group space group) rows → Q (g ++ rows) rows) → Bearing (scan_group node space group) u g Q
   bears_scan_group node space group u g Q q = (
     R.free g node (request.ScanGroup (the_tx u) space group) refl,
-    λ a. elim a as (λ x. Told (request.ScanGroup (the_tx u) space group) x → Goes Q (g ++ rows_answered (request.ScanGroup (the_tx u) space group) x) (met node x (the_rows x), u))
-        [ answer.Rows rows ↦ λ h. q rows h.0 h.1 | x ↦ λ h. R.refusals node x ],
+    λ a. elim a as (λ x. IsWhereAsked (request.ScanGroup (the_tx u) space group) x → Goes Q (g ++ rows_answered (request.ScanGroup (the_tx u) space group) x) (met node x (the_rows x), u))
+        [ answer.Rows rows ↦ λ h. q rows h | x ↦ λ h. R.refusals node x ],
   )
 
   pub bears_refuse : (o : Option Reply) (u : Use) (g : List Stored) (Q : List Stored → Unit {0} → Type 0) → ((r : Reply) → o ≡ Some r → R.Refused r) → Q g tt → Bearing (refuse o) u g Q

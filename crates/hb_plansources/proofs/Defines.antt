@@ -81,7 +81,7 @@ module _ (st : Statement) where
   areas_bear m u g Q q =
       let sp = dictionary_space areas_space in
       bearing_bind (sources st) (lock ds (path.Whole sp) m) (λ _. scan ds sp) u g Q
-      (bears_lock (sources st) ds (path.Whole sp) m u g (λ h a. (v : Use) → Plan (scan ds sp) v h Q) (λ tx. tt) (λ v. bears_scan (sources st) ds sp v g Q (λ rows under known. q rows)))
+      (bears_lock (sources st) ds (path.Whole sp) m u g (λ h a. (v : Use) → Plan (scan ds sp) v h Q) (λ tx. tt) (λ v. bears_scan (sources st) ds sp v g Q (λ rows under. q rows)))
 
   pub group_bears : {A : Type 0} (space table : ℕ) (p : Planning A) (u : Use) (g : List Stored) (Q : List Stored → A → Type 0) → ((v : Use) → Plan p v g Q) → Plan (lock_group space table >> p) u g Q
   group_bears space table p u g Q q =
@@ -125,7 +125,7 @@ create_table_bears name columns key area_names u =
     (bears_lock (sources st) ds (path.Whole sp) mode.X u [] (λ h a. (v : Use) → Bearing (sources st) (scan ds sp >>= behind) v h (Shows st)) (λ tx. tt)
     (λ v. bearing_bind (sources st) (scan ds sp) behind v [] (Shows st)
     (bears_scan (sources st) ds sp v [] (λ h tables. (w : Use) → Bearing (sources st) (behind tables) w h (Shows st))
-    (λ tables under known w. then_bears st (early tables) (areas mode.S >>= spread tables) w tables (Shows st) (refuses_freely st refl (early tables))
+    (λ tables under w. then_bears st (early tables) (areas mode.S >>= spread tables) w tables (Shows st) (refuses_freely st refl (early tables))
     (λ x. bearing_bind (sources st) (areas mode.S) (spread tables) x tables (Shows st)
     (areas_bear st mode.S x tables (λ h rows. (y : Use) → Bearing (sources st) (spread tables rows) y h (Shows st))
     (λ rows y. then_bears st (late tables rows) (lock_group members_space (new tables rows).number >> entered tables rows) y (tables ++ rows) (Shows st) (refuses_freely st refl (late tables rows))
@@ -160,12 +160,12 @@ add_area_bears table area_name u =
     (λ a e x. group_bears st members_space f.0 (joining f (area rows)) x h (Shows st)
     (λ y. bearing_bind (sources st) (scan_group ds (dictionary_space members_space) f.0) (spreading f (area rows)) y h (Shows st)
     (bears_scan_group (sources st) ds (dictionary_space members_space) f.0 y h (λ k members. (z : Use) → Bearing (sources st) (spreading f (area rows) members) z k (Shows st))
-    (λ members under known z. let k : List Stored = h ++ members in
+    (λ members under z. let k : List Stored = h ++ members in
     then_bears st (early f (area rows) members) (lock_group entries_space f.0 >> entering f (area rows) members) z k (Shows st) (refuses_freely st refl (early f (area rows) members))
     (λ o. group_bears st entries_space f.0 (entering f (area rows) members) o k (Shows st)
     (λ p. bearing_bind (sources st) (scan_group ds (dictionary_space entries_space) f.0) (entered f (area rows) members) p k (Shows st)
     (bears_scan_group (sources st) ds (dictionary_space entries_space) f.0 p k (λ l entries. (q : Use) → Bearing (sources st) (entered f (area rows) members entries) q l (Shows st))
-    (λ entries under known q. then_bears st (late f (area rows) members entries) (ending f (area rows) members entries) q (k ++ entries) (Shows st) (refuses_freely st refl (late f (area rows) members entries))
+    (λ entries under q. then_bears st (late f (area rows) members entries) (ending f (area rows) members entries) q (k ++ entries) (Shows st) (refuses_freely st refl (late f (area rows) members entries))
     (λ i. let t = spread_of f members entries in
     ends_bear st (map put_row (changed f (area rows) members entries)) reply.Added i (k ++ entries)
     (dictionary_writes st (k ++ entries) (changed f (area rows) members entries) (refl, changed_rows_are t (reassign t.entries t.members (number_of (area rows))))) tt))))))))))))))

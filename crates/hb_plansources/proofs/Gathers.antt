@@ -112,7 +112,7 @@ module _ (st : Statement) where
       bearing_bind (sources st) names (λ rows. some_or reply.NoTable (table_among rows name)) u [] Q
       (bearing_bind (sources st) (lock ds (path.Whole sp) mode.S) (λ _. scan ds sp) u [] next
       (bears_lock (sources st) ds (path.Whole sp) mode.S u [] (λ h a. (v : Use) → Plan (scan ds sp) v h next) (λ tx. tt)
-      (λ v. bears_scan (sources st) ds sp v [] next (λ rows under k w. bears_some_or (sources st) reply.NoTable (table_among rows name) w rows Q (λ s. refl) (λ f e. q rows f)))))
+      (λ v. bears_scan (sources st) ds sp v [] next (λ rows under w. bears_some_or (sources st) reply.NoTable (table_among rows name) w rows Q (λ s. refl) (λ f e. q rows f)))))
 
   pub entry_bears : (table group : ℕ) (u : Use) (g : List Stored) (Q : List Stored → Option Entry → Type 0)
       → ((h : List Stored) (o : Option Entry) → ((e : Entry) → o ≡ Some e → Each IsOfUsers (route e)) → Q h o) → Plan (entry_under mode.S table group) u g Q
@@ -123,7 +123,7 @@ module _ (st : Statement) where
       (bears_lock (sources st) ds (path.Key place) mode.S u g (λ h x. (v : Use) → Plan reading v h Q) (λ tx. tt)
       (λ v. bearing_bind (sources st) (read ds place) (λ row. pure (entry_of row)) v g Q
       (bears_read (sources st) ds place v g (λ h row. (w : Use) → Plan (pure (entry_of row)) w h Q)
-      (λ row known w. q (g ++ rows_answered (request.Read (record { 0 = v.tx }) place) (answer.Row row)) (entry_of row) (route_named row)))))
+      (λ row w. q (g ++ rows_answered (request.Read (record { 0 = v.tx }) place) (answer.Row row)) (entry_of row) (route_named row)))))
 
   pub walking_bears : (m : Mode) (table : ℕ) (key : ℤ) (areas : List ℕ) (rows : List Stored) (u : Use) (g : List Stored) (Q : List Stored → List Stored → Type 0) → Each IsOfUsers areas → Gathered g rows
       → ((h rs : List Stored) → Gathered h rs → Q h rs) → Plan (walking m table key areas rows) u g Q
@@ -136,7 +136,7 @@ module _ (st : Statement) where
       (bears_lock (sources st) node (path.Key here) m u g (λ h x. (v : Use) → Plan reading v h Q) (λ tx. tt)
       (λ v. bearing_bind (sources st) (read node here) (λ row. walking m table key more (rows ++ stored_at here row)) v g Q
       (bears_read (sources st) node here v g (λ h row. (w : Use) → Plan (walking m table key more (rows ++ stored_at here row)) w h Q)
-      (λ row known w. let extra = rows_answered (request.Read (record { 0 = v.tx }) here) (answer.Row row) in
+      (λ row w. let extra = rows_answered (request.Read (record { 0 = v.tx }) here) (answer.Row row) in
       walking_bears m table key more (rows ++ stored_at here row) w (g ++ extra) Q all.1
       (Each-append (IsGathered (g ++ extra)) rows (stored_at here row) (gathered_more g extra rows gathered) (read_gathered g (record { 0 = v.tx }) a table key row all.0)) q))))
 
@@ -151,7 +151,7 @@ module _ (st : Statement) where
       (bears_lock (sources st) node (path.Whole here) m u g (λ h x. (v : Use) → Plan reading v h Q) (λ tx. tt)
       (λ v. bearing_bind (sources st) (scan node here) (λ found. scanning m table more (rows ++ found)) v g Q
       (bears_scan (sources st) node here v g (λ h found. (w : Use) → Plan (scanning m table more (rows ++ found)) w h Q)
-      (λ found under known w. scanning_bears m table more (rows ++ found) w (g ++ found) Q all.1
+      (λ found under w. scanning_bears m table more (rows ++ found) w (g ++ found) Q all.1
       (Each-append (IsGathered (g ++ found)) rows found (gathered_more g found rows gathered) (scan_gathered g a table found all.0 under)) q))))
 
   pub entries_bear : {A : Type 0} (table : ℕ) (next : List Stored → Planning A) (u : Use) (g : List Stored) (Q : List Stored → A → Type 0)
@@ -162,7 +162,7 @@ module _ (st : Statement) where
       bearing_bind (sources st) (lock ds (path.Group sp table) mode.S) (λ _. scan_group ds sp table >>= next) u g Q
       (bears_lock (sources st) ds (path.Group sp table) mode.S u g (λ h x. (v : Use) → Plan (scan_group ds sp table >>= next) v h Q) (λ tx. tt)
       (λ v. bearing_bind (sources st) (scan_group ds sp table) next v g Q
-      (bears_scan_group (sources st) ds sp table v g (λ h rows. (w : Use) → Plan (next rows) w h Q) (λ rows under known w. q (g ++ rows) rows (areas_named rows) w))))
+      (bears_scan_group (sources st) ds sp table v g (λ h rows. (w : Use) → Plan (next rows) w h Q) (λ rows under w. q (g ++ rows) rows (areas_named rows) w))))
 
   considered_bears : (m : Mode) (f : Found) (o : Option ℤ) (u : Use) (g : List Stored) (Q : List Stored → List Stored → Type 0) → ((h rs : List Stored) → Gathered h rs → Q h rs)
       → Plan (considered m f o) u g Q

@@ -1,6 +1,6 @@
 -- What the sources of a statement's rows ask of the course of its plan.
-use Rattle.std.proofs.Common.{◌≡◌, ℕ, List, [], ◌∷◌, Result, Ok, Err, Bool, true, false, refl, sym}
-use Rattle.std.specs.Prelude.{⊤, IsTrue}
+use Rattle.std.proofs.Common.{◌≡◌, ℕ, List, [], Result, Ok, Err, Bool, true, false, refl, sym}
+use Rattle.std.specs.Prelude.{IsTrue}
 use Rattle.std.proofs.lemmas.Bool.{false≢true}
 use Rattle.hb_types.specs.declared.answer.Answer.{Answer}
 use Rattle.hb_types.specs.declared.answer.Answer.TheVariants as answer
@@ -8,7 +8,7 @@ use Rattle.hb_types.specs.declared.change.Stored.{Stored}
 use Rattle.hb_types.specs.declared.request.Request.{Request}
 use Rattle.hb_types.specs.declared.request.Request.TheVariants as request
 use Rattle.hb_types.specs.declared.trail.Call.{Call}
-use Rattle.hb_types.specs.Lists.{Each, EachBehind}
+use Rattle.hb_types.specs.Lists.{EachBehind}
 use Rattle.hb_model.specs.declared.reply.Reply.{Reply}
 use Rattle.hb_model.specs.declared.reply.Reply.TheVariants as reply
 use Rattle.hb_model.specs.declared.statement.Statement.{Statement}
@@ -18,7 +18,7 @@ use Rattle.hb_model.specs.Asked.{AreWhereAsked}
 use Rattle.hb_model.specs.Sources.{ShowsGiven, Sourced, WriteMade}
 use Rattle.hb_talk.specs.Talk.{Begins, Follows, Planning, Use, refusal_of}
 use Rattle.hb_plancalc.specs.Counted.{reply_in}
-use Rattle.hb_planlocks.proofs.Course.{Bearing, Goes, Rule, all_told, begins_rightly, follows_rightly, is_free}
+use Rattle.hb_planlocks.proofs.Course.{Bearing, Goes, Rule, begins_rightly, follows_rightly, is_free}
 
 abbrev pub is_rows : Reply → Bool
 is_rows (reply.Rows rows) = true
@@ -43,11 +43,6 @@ none_shown (statement.Select w table pred) (reply.Rows rows) g h = λ s. absurd 
 none_shown (statement.Select w table pred) _ g h = tt
 none_shown _ r g h = tt
 
--- nothing is asked of the rows that are answered
-none_known : (rows : List Stored) → Each (λ r. ⊤) rows
-none_known [] = tt
-none_known (r ∷ rows) = (tt, none_known rows)
-
 module _ (st : Statement) where
   -- a refusal of a SELECT shows no rows
   abbrev pub Refusing : Reply → Type 0
@@ -56,7 +51,6 @@ module _ (st : Statement) where
   abbrev pub sources : Rule
   sources = record {
     May = λ g node q. WriteMade st g q;
-    Known = λ r. ⊤;
     Refused = Refusing;
     free = free;
     refusals = λ node a s. no_rows node a;
@@ -73,8 +67,7 @@ module _ (st : Statement) where
   pub by_course : (p : Planning Reply) (u v : Use) (calls : List Call) (r : Result Reply Reply) → Follows false (p u) calls (r, v) → AreWhereAsked calls
       → Bearing sources p u [] Shows → Sourced st calls (reply_in r)
   by_course p u v calls r follows asked bears =
-      let told = all_told sources calls asked (none_known (given calls)) in
-      let c = follows_rightly sources false (p u) calls (r, v) follows [] (Goes sources Shows) bears told in
+      let c = follows_rightly sources false (p u) calls (r, v) follows [] (Goes sources Shows) bears asked in
       record { shown = over r c.said; written = c.asked_rightly }
     where
       over : (o : Result Reply Reply) → Goes sources Shows (given calls) (o, v) → ShowsGiven st (reply_in o) (given calls)
@@ -85,4 +78,4 @@ module _ (st : Statement) where
   pub by_front : (p : Planning Reply) (u : Use) (calls : List Call) → Begins (p u) calls → AreWhereAsked calls → Bearing sources p u [] Shows
       → EachBehind (λ before c. WriteMade st (given before) c.request) [] calls
   by_front p u calls begins asked bears =
-      begins_rightly sources (p u) calls begins [] (Goes sources Shows) bears (all_told sources calls asked (none_known (given calls)))
+      begins_rightly sources (p u) calls begins [] (Goes sources Shows) bears asked
