@@ -127,17 +127,17 @@ closed_left_at old last new works calls replies idle runs turn closes =
 -- ---- the laws
 
 pub given_up_sessions_right : GivenUpSessionsAreRight
-given_up_sessions_right old last new work works calls asked rolled replies why r few plain idle runs turn up t answers =
+given_up_sessions_right old last new work works calls asked rolled replies why r few plain idle runs turn up t =
     let left = amid_left_at old last new (work ∷ works) calls asked replies why idle runs turn up in
     let undone = given_up_undone last new asked why up in
     let back = rolled_back new undone.used why r rolled undone.rolls t in
     subst (λ x. Divided old.back_ends (work ∷ works) (calls ++ (asked ++ rolled)) (replies ++ x ∷ [])) (sym back.0)
-    (given_up_right old.back_ends (work ∷ works) (calls ++ (asked ++ rolled)) replies why few plain (whole old true (work ∷ works) calls asked rolled replies why left back.1 undone.outside) answers)
+    (given_up_right old.back_ends (work ∷ works) (calls ++ (asked ++ rolled)) replies why few plain (whole old true (work ∷ works) calls asked rolled replies why left back.1 undone.outside))
 
 pub closed_sessions_right : ClosedSessionsAreRight
-closed_sessions_right old last new work works calls rolled replies r place few plain idle runs turn closes t answers =
+closed_sessions_right old last new work works calls rolled replies r place few plain idle runs turn closes t =
     let left = closed_left_at old last new (work ∷ works) calls replies idle runs turn closes in
     let undone = closed_undone last.stage new closes in
     let back = rolled_back new undone.used reply.RolledBackEnd r rolled undone.rolls t in
     subst (λ x. Closed old.back_ends place (work ∷ works) (calls ++ rolled) replies x) (sym back.0)
-    (closed_right old.back_ends place (work ∷ works) (calls ++ rolled) replies reply.RolledBackEnd few plain (whole old false (work ∷ works) calls [] rolled replies reply.RolledBackEnd left back.1 undone.outside) answers)
+    (closed_right old.back_ends place (work ∷ works) (calls ++ rolled) replies reply.RolledBackEnd few plain (whole old false (work ∷ works) calls [] rolled replies reply.RolledBackEnd left back.1 undone.outside))

@@ -28,9 +28,9 @@ use Rattle.hb_sessionitems.proofs.Positions.{LeftBegun}
 -- ---- ended as the talk says
 
 pub sessions_own : SessionsAreOwn
-sessions_own old last new work works calls replies few plain idle runs p a r asks answers sys begun =
+sessions_own old last new work works calls replies few plain idle runs p a r asks sys begun =
     transactions_own old.back_ends (next_owner old) work works (calls ++ call_of p a ∷ []) (replies ++ r ∷ []) few plain
-    (transactions_follow old last new work.1 (statements works) calls replies idle runs p a r asks) answers sys begun
+    (transactions_follow old last new work.1 (statements works) calls replies idle runs p a r asks) sys begun
 
 pub unbegun_sessions_nothing : UnbegunSessionsAskNothing
 unbegun_sessions_nothing old last new work works calls replies idle runs p a r asks none =
@@ -69,12 +69,12 @@ module _ (old : Sitting) (amidst : Bool) (works : List Given) (calls asked rolle
       subst (λ zs. StartsOwn b.tx.0 (zs ++ rolled)) (sym (b.left.late_alone some)) (subst (StartsOwn b.tx.0) (sym first) (ap Some own))
 
 pub given_up_sessions_own : GivenUpSessionsAreOwn
-given_up_sessions_own old last new work works calls asked rolled replies why r few plain idle runs turn up t answers sys obeyed =
+given_up_sessions_own old last new work works calls asked rolled replies why r few plain idle runs turn up t sys obeyed =
     let left = amid_left_at old last new (work ∷ works) calls asked replies why idle runs turn up in
     let undone = given_up_undone last new asked why up in
     let back = rolled_back new undone.used why r rolled undone.rolls t in
     let g = whole old true (work ∷ works) calls asked rolled replies why left back.1 undone.outside in
-    let d = given_up_own old.back_ends (next_owner old) (work ∷ works) (calls ++ (asked ++ rolled)) replies why few plain g answers sys (begun_of old true (work ∷ works) calls asked rolled replies left back.2)
+    let d = given_up_own old.back_ends (next_owner old) (work ∷ works) (calls ++ (asked ++ rolled)) replies why few plain g sys (begun_of old true (work ∷ works) calls asked rolled replies left back.2)
     (starts_of old true (work ∷ works) calls asked rolled replies left back.2 obeyed sys back.3) in
     subst (λ x. DividedOwn old.back_ends (work ∷ works) (calls ++ (asked ++ rolled)) (replies ++ x ∷ [])) (sym back.0) (d.0, left.tx.0, d.1)
 
@@ -83,11 +83,11 @@ abbrev ClosedOwn : Sitting → List Given → List Call → List Reply → ℕ �
 ClosedOwn old works calls replies place r = (c : Closed old.back_ends place works calls replies r) × (tx : ℕ) × AreOwn tx (c.items ++ closing place c.last r ∷ [])
 
 pub closed_sessions_own : ClosedSessionsAreOwn
-closed_sessions_own old last new work works calls rolled replies r place few plain idle runs turn closes t answers sys obeyed =
+closed_sessions_own old last new work works calls rolled replies r place few plain idle runs turn closes t sys obeyed =
     let left = closed_left_at old last new (work ∷ works) calls replies idle runs turn closes in
     let undone = closed_undone last.stage new closes in
     let back = rolled_back new undone.used reply.RolledBackEnd r rolled undone.rolls t in
     let g = whole old false (work ∷ works) calls [] rolled replies reply.RolledBackEnd left back.1 undone.outside in
-    let d = closed_own old.back_ends place (next_owner old) (work ∷ works) (calls ++ rolled) replies reply.RolledBackEnd few plain g answers sys
+    let d = closed_own old.back_ends place (next_owner old) (work ∷ works) (calls ++ rolled) replies reply.RolledBackEnd few plain g sys
     (begun_of old false (work ∷ works) calls [] rolled replies left back.2) (starts_of old false (work ∷ works) calls [] rolled replies left back.2 obeyed sys back.3) in
     subst (λ x. ClosedOwn old (work ∷ works) (calls ++ rolled) replies place x) (sym back.0) (d.0, left.tx.0, d.1)

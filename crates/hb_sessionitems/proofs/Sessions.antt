@@ -8,6 +8,6 @@ use Rattle.hb_itemlaws.proofs.Dividing.{transactions_right}
 use Rattle.hb_sessionitems.specs.Sitting.{SessionsAreRight}
 
 pub sessions_right : SessionsAreRight
-sessions_right old last new work works calls replies few plain idle runs p a r asks answers begun =
+sessions_right old last new work works calls replies few plain idle runs p a r asks begun =
     transactions_right old.back_ends (next_owner old) work works (calls ++ call_of p a ∷ []) (replies ++ r ∷ []) few plain
-    (transactions_follow old last new work.1 (statements works) calls replies idle runs p a r asks) answers begun
+    (transactions_follow old last new work.1 (statements works) calls replies idle runs p a r asks) begun

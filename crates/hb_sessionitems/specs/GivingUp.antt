@@ -15,7 +15,6 @@ use Rattle.hb_session.specs.Runs.{Asks, Runs, call_of, stays, gives, asks, refus
 use Rattle.hb_session.specs.Sitting.{Sitting, is_busy, is_refused, is_waiting}
 use Rattle.hb_session.specs.Steps.{Abandons, Closes, Makes, OpensAt, RunsOutAt}
 use Rattle.hb_planlaws.specs.Planned.{most_back_ends}
-use Rattle.hb_faithful.specs.Planned.{AreAnswers}
 use Rattle.hb_itemlaws.specs.Dividing.{Divided, Given, statements}
 use Rattle.hb_itemlaws.specs.GivingUp.{Closed}
 
@@ -58,7 +57,7 @@ abbrev pub GivenUpSessionsAreRight : Type 0
 GivenUpSessionsAreRight =
     (old last new : Sitting) (work : Given) (works : List Given) (calls asked rolled : List Call) (replies : List Reply) (why r : Reply) → old.back_ends ≤ most_back_ends
     → Each (λ w. IsTrue (is_plain w.1)) (work ∷ works) → old.stage ≡ stage.Idle → (runs : Runs old (statements (work ∷ works)) calls replies last) → InTurn runs
-    → GivesUp last new asked why → RunsToEnd new rolled r → AreAnswers (calls ++ (asked ++ rolled))
+    → GivesUp last new asked why → RunsToEnd new rolled r
     → Divided old.back_ends (work ∷ works) (calls ++ (asked ++ rolled)) (replies ++ r ∷ [])
 
 -- Given up between two statements, the rolling back is an item of no statement, behind those of the statements.
@@ -66,4 +65,4 @@ abbrev pub ClosedSessionsAreRight : Type 0
 ClosedSessionsAreRight =
     (old last new : Sitting) (work : Given) (works : List Given) (calls rolled : List Call) (replies : List Reply) (r : Reply) (place : ℕ) → old.back_ends ≤ most_back_ends
     → Each (λ w. IsTrue (is_plain w.1)) (work ∷ works) → old.stage ≡ stage.Idle → (runs : Runs old (statements (work ∷ works)) calls replies last) → InTurn runs
-    → Closes last.stage new → RunsToEnd new rolled r → AreAnswers (calls ++ rolled) → Closed old.back_ends place (work ∷ works) (calls ++ rolled) replies r
+    → Closes last.stage new → RunsToEnd new rolled r → Closed old.back_ends place (work ∷ works) (calls ++ rolled) replies r

@@ -12,7 +12,6 @@ use Rattle.hb_session.specs.Runs.{Asks, Runs, call_of}
 use Rattle.hb_session.specs.Sitting.{Sitting}
 use Rattle.hb_session.specs.Steps.{Closes}
 use Rattle.hb_planlaws.specs.Planned.{most_back_ends}
-use Rattle.hb_faithful.specs.Planned.{AreAnswers}
 use Rattle.hb_law.specs.Callers.{ObeysFrom}
 use Rattle.hb_law.specs.Transactions.{begins_of, tx_asked}
 use Rattle.hb_itemlaws.specs.Dividing.{Given, statements}
@@ -25,7 +24,7 @@ abbrev pub SessionsAreOwn : Type 0
 SessionsAreOwn =
     (old last new : Sitting) (work : Given) (works : List Given) (calls : List Call) (replies : List Reply) → old.back_ends ≤ most_back_ends
     → Each (λ w. IsTrue (is_plain w.1)) (work ∷ works) → old.stage ≡ stage.Idle → Runs old (statements (work ∷ works)) calls replies last
-    → (p : Pending) (a : Answer) (r : Reply) → Asks last new p a (progress.Ended r) → AreAnswers (calls ++ call_of p a ∷ []) → AreBegins (calls ++ call_of p a ∷ [])
+    → (p : Pending) (a : Answer) (r : Reply) → Asks last new p a (progress.Ended r) → AreBegins (calls ++ call_of p a ∷ [])
     → begins_of (calls ++ call_of p a ∷ []) ≢ [] → DividedOwn old.back_ends (work ∷ works) (calls ++ call_of p a ∷ []) (replies ++ r ∷ [])
 
 -- One that was not begun asks nothing of any transaction.
@@ -44,7 +43,7 @@ abbrev pub GivenUpSessionsAreOwn : Type 0
 GivenUpSessionsAreOwn =
     (old last new : Sitting) (work : Given) (works : List Given) (calls asked rolled : List Call) (replies : List Reply) (why r : Reply) → old.back_ends ≤ most_back_ends
     → Each (λ w. IsTrue (is_plain w.1)) (work ∷ works) → old.stage ≡ stage.Idle → (runs : Runs old (statements (work ∷ works)) calls replies last) → InTurn runs
-    → GivesUp last new asked why → RunsToEnd new rolled r → AreAnswers (calls ++ (asked ++ rolled)) → AreBegins (calls ++ (asked ++ rolled))
+    → GivesUp last new asked why → RunsToEnd new rolled r → AreBegins (calls ++ (asked ++ rolled))
     → Obeyed old (calls ++ (asked ++ rolled)) → DividedOwn old.back_ends (work ∷ works) (calls ++ (asked ++ rolled)) (replies ++ r ∷ [])
 
 -- and where it is given up between two, with the rolling back as the last item
@@ -52,5 +51,5 @@ abbrev pub ClosedSessionsAreOwn : Type 0
 ClosedSessionsAreOwn =
     (old last new : Sitting) (work : Given) (works : List Given) (calls rolled : List Call) (replies : List Reply) (r : Reply) (place : ℕ) → old.back_ends ≤ most_back_ends
     → Each (λ w. IsTrue (is_plain w.1)) (work ∷ works) → old.stage ≡ stage.Idle → (runs : Runs old (statements (work ∷ works)) calls replies last) → InTurn runs
-    → Closes last.stage new → RunsToEnd new rolled r → AreAnswers (calls ++ rolled) → AreBegins (calls ++ rolled) → Obeyed old (calls ++ rolled)
+    → Closes last.stage new → RunsToEnd new rolled r → AreBegins (calls ++ rolled) → Obeyed old (calls ++ rolled)
     → (c : Closed old.back_ends place (work ∷ works) (calls ++ rolled) replies r) × (tx : ℕ) × AreOwn tx (c.items ++ closing place c.last r ∷ [])
