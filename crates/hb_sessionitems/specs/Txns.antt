@@ -13,7 +13,7 @@ use Rattle.hb_session.specs.Runs.{Asks, Runs, call_of}
 use Rattle.hb_session.specs.Sitting.{Sitting, next_owner}
 use Rattle.hb_session.specs.Steps.{Closes}
 use Rattle.hb_planlaws.specs.Planned.{most_back_ends}
-use Rattle.hb_faithful.specs.Planned.{AreAnswers, is_planned}
+use Rattle.hb_faithful.specs.Planned.{is_planned}
 use Rattle.hb_law.specs.Transactions.{begins_of}
 use Rattle.hb_itemlaws.specs.Dividing.{Divided, Given, statements}
 use Rattle.hb_itemlaws.specs.GivingUp.{Closed, closing}
@@ -31,7 +31,7 @@ abbrev pub SessionsAreTxns : Type 0
 SessionsAreTxns =
     (old last new : Sitting) (work : Given) (works : List Given) (calls : List Call) (replies : List Reply) → old.back_ends ≤ most_back_ends
     → Each (λ w. IsTrue (is_plain w.1)) (work ∷ works) → IsTrue (is_planned work.1) → old.stage ≡ stage.Idle → Runs old (statements (work ∷ works)) calls replies last
-    → (p : Pending) (a : Answer) (r : Reply) → Asks last new p a (progress.Ended r) → AreAnswers (calls ++ call_of p a ∷ []) → AreBegins (calls ++ call_of p a ∷ [])
+    → (p : Pending) (a : Answer) (r : Reply) → Asks last new p a (progress.Ended r) → AreBegins (calls ++ call_of p a ∷ [])
     → begins_of (calls ++ call_of p a ∷ []) ≢ [] → DividedRightly old.back_ends (next_owner old) (work ∷ works) (calls ++ call_of p a ∷ []) (replies ++ r ∷ [])
 
 -- so is one that is given up amid a statement,
@@ -39,7 +39,7 @@ abbrev pub GivenUpSessionsAreTxns : Type 0
 GivenUpSessionsAreTxns =
     (old last new : Sitting) (work : Given) (works : List Given) (calls asked rolled : List Call) (replies : List Reply) (why r : Reply) → old.back_ends ≤ most_back_ends
     → Each (λ w. IsTrue (is_plain w.1)) (work ∷ works) → IsTrue (is_planned work.1) → old.stage ≡ stage.Idle → (runs : Runs old (statements (work ∷ works)) calls replies last)
-    → InTurn runs → GivesUp last new asked why → RunsToEnd new rolled r → AreAnswers (calls ++ (asked ++ rolled)) → AreBegins (calls ++ (asked ++ rolled))
+    → InTurn runs → GivesUp last new asked why → RunsToEnd new rolled r → AreBegins (calls ++ (asked ++ rolled))
     → Obeyed old (calls ++ (asked ++ rolled)) → DividedRightly old.back_ends (next_owner old) (work ∷ works) (calls ++ (asked ++ rolled)) (replies ++ r ∷ [])
 
 -- and one that is given up between two, with the rolling back as the last item
@@ -47,7 +47,7 @@ abbrev pub ClosedSessionsAreTxns : Type 0
 ClosedSessionsAreTxns =
     (old last new : Sitting) (work : Given) (works : List Given) (calls rolled : List Call) (replies : List Reply) (r : Reply) (place : ℕ) → old.back_ends ≤ most_back_ends
     → Each (λ w. IsTrue (is_plain w.1)) (work ∷ works) → IsTrue (is_planned work.1) → old.stage ≡ stage.Idle → (runs : Runs old (statements (work ∷ works)) calls replies last)
-    → InTurn runs → Closes last.stage new → RunsToEnd new rolled r → AreAnswers (calls ++ rolled) → AreBegins (calls ++ rolled) → Obeyed old (calls ++ rolled)
+    → InTurn runs → Closes last.stage new → RunsToEnd new rolled r → AreBegins (calls ++ rolled) → Obeyed old (calls ++ rolled)
     → (c : Closed old.back_ends place (work ∷ works) (calls ++ rolled) replies r) × (tx : ℕ) × AreRightItems old.back_ends (next_owner old) tx (c.items ++ closing place c.last r ∷ [])
 
 -- One that was not begun had one reply, with which it is an item of no transaction.
