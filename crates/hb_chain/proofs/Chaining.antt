@@ -71,7 +71,8 @@ chain_more logs txns front s [] t d f c e k = moved logs txns f front d t s (e �
 chain_more logs txns front s (x ∷ xs) t d f c e k =
     (c.0, chain_more logs txns (front ++ x ∷ []) c.0.after xs t d f c.1 (e ∙ sym (append_assoc front (x ∷ []) xs)) k)
 
-module _ (laws : Laws) (base logs : Logs) (trails : Trails) (lists : List (List Item)) (txns : List Txn) (it : Itemed base logs trails lists txns) (right : AreLogs logs) (fes : List Labelled)
+module _ (laws : Laws) (base logs : Logs) (trails : Trails) (lists : List (List Item)) (txns : List Txn) (it : Itemed base logs trails lists txns)
+    (right : AreLogs logs) (fes : List Labelled)
     (at : slice_get trails 0 ≡ Some fes) (start : State) (at_start : StateAfter logs (decided base) start) where
   same_ends : back_ends base ≡ back_ends logs
   same_ends = ap (λ n. n - 1) (sym it.callings.nodes.same)

@@ -31,7 +31,8 @@ each_step logs txns ds0 done s (d ∷ ds) t c at =
           (subst (λ l. StateAfter logs l c.0.after) same c.0.at_after),
     )
 
-module _ (grow : DecisionsGrow) (logs_right : LogsStayRight) (states : StatesChain) (ends : EndsAreShown) (clean : RowsAreClean) (balanced : CompletesAreBalanced) (w : World) (t : Together written w) where
+module _ (grow : DecisionsGrow) (logs_right : LogsStayRight) (states : StatesChain) (ends : EndsAreShown) (clean : RowsAreClean)
+    (balanced : CompletesAreBalanced) (w : World) (t : Together written w) where
   callings : Callings w.base w.logs w.trails (lists_of w)
   callings =
       record { right = t.stood.are_logs; nodes = t.nodes; merged = t.merged; obey = t.obey; operator = t.operator; system = t.system; back_ends_few = t.back_ends_few }

@@ -15,6 +15,7 @@ use Rattle.hb_system.specs.Disks.{AreKept, IsEmpty}
 use Rattle.hb_system.specs.Opening.{AreDisks, IsCause, IsRefused, damage_at, is_early, line_of, status_of as status_by}
 use Rattle.hb_acts.specs.declared.stop.Stop.{Stop}
 use Rattle.hb_acts.specs.declared.stop.Stop.TheVariants.{Source, Sink, Memory, Line as Long}
+use Rattle.hb_console.specs.Leaving.{DisksLeft}
 use Rattle.hb_console.specs.Ends.{DiskFailed, Ends, IsDamaged, IsOrigin}
 use Rattle.hb_acts.specs.Outside.{Outside, GoesOn, HasLongLine, MayStop}
 use Rattle.hb_acts.specs.Runs.{Runs, StopsAt}
@@ -95,16 +96,16 @@ module _ (before after : Outside) where
   line_long Memory may e = absurd (omega arith)
   line_long Long may e = may
 
-  module _ {D : Type 0} (content : D → Option Image) (last faults : D → ℕ) (Failed : List D → List D → Type 0) (from n : ℕ) (old new : List D) where
+  module _ {D : Type 0} (content : D → Option Image) (left : D → ℕ → Image → Type 0) (last faults : D → ℕ) (Failed : List D → List D → Type 0) (from to n : ℕ) (old new : List D) where
     abbrev Goal : ℕ → Type 0
-    Goal status = Ends content last faults Failed from n status before after old new
+    Goal status = Ends content left last faults Failed from to n status before after old new
 
     -- the system was open
-    run_ended : (origin : Running) → IsOrigin n origin → (ended : Result (Unit {0}) Stop) → Runs origin before after ended → All (IsEmpty content) old → Goal (status_of ended)
-    run_ended origin is (Ok x) runs empty = record {
+    run_ended : (origin end : Running) → IsOrigin n origin → DisksLeft content left last from to old new end.lists → (ended : Result (Unit {0}) Stop) → Runs origin end before after ended → All (IsEmpty content) old → Goal (status_of ended)
+    run_ended origin end is left (Ok x) runs empty = record {
       known = inl refl;
       goes_on = runs.goes_on;
-      finished = λ e. (origin, is, runs.done);
+      finished = λ e. (origin, is, end, left, runs.done);
       stopped = λ stop e. absurd (not_done stop (sym e));
       source_failed = λ e. absurd (omega (arith, e));
       sink_failed = λ e. absurd (omega (arith, e));
@@ -113,11 +114,11 @@ module _ (before after : Outside) where
       damaged = λ e. absurd (omega (arith, e));
       empty = λ a b c. empty;
     }
-    run_ended origin is (Err stop) runs empty = record {
+    run_ended origin end is left (Err stop) runs empty = record {
       known = inr (inr (inr (stop, refl)));
       goes_on = runs.goes_on;
       finished = λ e. absurd (not_done stop e);
-      stopped = λ other e. inr (origin, is, subst (λ (s : Stop). IfSome before.input (StopsAt origin before after s)) (code_one stop other e) runs.stopped);
+      stopped = λ other e. inr (origin, is, end, left, subst (λ (s : Stop). IfSome before.input (StopsAt origin end before after s)) (code_one stop other e) runs.stopped);
       source_failed = λ e. source_rose stop runs.cause e;
       sink_failed = λ e. sink_rose stop runs.cause e;
       disk_failed = λ e. absurd (not_disk stop e);
@@ -126,8 +127,8 @@ module _ (before after : Outside) where
       empty = λ a b c. empty;
     }
 
-    pub run_ends : (origin : Running) → IsOrigin n origin → (ended : Result (Unit {0}) Stop) → Runs origin before after ended → All (IsEmpty content) old → (status : ℕ) → status ≡ status_of ended → Goal status
-    run_ends origin is ended runs empty status e = subst Goal (sym e) (run_ended origin is ended runs empty)
+    pub run_ends : (origin end : Running) → IsOrigin n origin → DisksLeft content left last from to old new end.lists → (ended : Result (Unit {0}) Stop) → Runs origin end before after ended → All (IsEmpty content) old → (status : ℕ) → status ≡ status_of ended → Goal status
+    run_ends origin end is left ended runs empty status e = subst Goal (sym e) (run_ended origin end is left ended runs empty)
 
     module _ (goes_on : GoesOn before after) (input : after.input ≡ before.input) where
       ends_disk : DiskFailed content last faults Failed from old new → after.output ≡ before.output → Goal 5
@@ -172,8 +173,8 @@ module _ (before after : Outside) where
         empty = λ a b c. absurd (b refl);
       }
 
-      tells_damage : (at to status : ℕ) → IsCause content faults old new (refusal.Damaged at) → AreKept content last faults from to old new → TellsLine (text_of [] (damage_at at)) before.output after.output before.faults.sink after.faults.sink 6 status → Goal status
-      tells_damage at to status cause kept (inl (same, puts, inl all)) = subst Goal (sym same) (ends_damaged (record {
+      tells_damage : (at then status : ℕ) → IsCause content faults old new (refusal.Damaged at) → AreKept content last faults from then old new → TellsLine (text_of [] (damage_at at)) before.output after.output before.faults.sink after.faults.sink 6 status → Goal status
+      tells_damage at then status cause kept (inl (same, puts, inl all)) = subst Goal (sym same) (ends_damaged (record {
         at = at;
         kept = kept.each;
         first = cause.1;
@@ -183,7 +184,7 @@ module _ (before after : Outside) where
         front = ([], sym (append-nil (text_of [] (damage_at at))));
         whole = inl refl;
       }))
-      tells_damage at to status cause kept (inl (same, puts, inr rose)) = subst Goal (sym same) (ends_damaged (record {
+      tells_damage at then status cause kept (inl (same, puts, inr rose)) = subst Goal (sym same) (ends_damaged (record {
         at = at;
         kept = kept.each;
         first = cause.1;
@@ -193,23 +194,23 @@ module _ (before after : Outside) where
         front = puts.front;
         whole = inr rose;
       }))
-      tells_damage at to status cause kept (inr (is, same)) = subst Goal (sym is) (ends_memory same)
+      tells_damage at then status cause kept (inr (is, same)) = subst Goal (sym is) (ends_memory same)
 
-      refused_by : (why : Refusal) (to status : ℕ) → AreDisks (length old) → IsCause content faults old new why → (is_early why ≡ true → AreKept content last faults from to old new)
+      refused_by : (why : Refusal) (then status : ℕ) → AreDisks (length old) → IsCause content faults old new why → (is_early why ≡ true → AreKept content last faults from then old new)
           → (why ≡ refusal.Start → (taken : List D) × (mid : ℕ) × AreKept content last faults from mid old taken × Failed taken new)
           → Tells (line_of why) before.output after.output before.faults.sink after.faults.sink (status_by why) status → Goal status
-      refused_by refusal.Usage to status disks cause kept failed tells = absurd (cause disks)
-      refused_by refusal.Disk to status disks cause kept failed tells = subst Goal (sym tells.0) (ends_disk (inl cause.1) tells.1)
-      refused_by (refusal.Damaged at) to status disks cause kept failed tells = tells_damage at to status cause (kept refl) tells
-      refused_by refusal.Start to status disks cause kept failed tells = subst Goal (sym tells.0) (ends_disk (inr (failed refl)) tells.1)
-      refused_by refusal.Memory to status disks cause kept failed tells = subst Goal (sym tells.0) (ends_memory tells.1)
+      refused_by refusal.Usage then status disks cause kept failed tells = absurd (cause disks)
+      refused_by refusal.Disk then status disks cause kept failed tells = subst Goal (sym tells.0) (ends_disk (inl cause.1) tells.1)
+      refused_by (refusal.Damaged at) then status disks cause kept failed tells = tells_damage at then status cause (kept refl) tells
+      refused_by refusal.Start then status disks cause kept failed tells = subst Goal (sym tells.0) (ends_disk (inr (failed refl)) tells.1)
+      refused_by refusal.Memory then status disks cause kept failed tells = subst Goal (sym tells.0) (ends_memory tells.1)
 
-      pub refused_ends : (to told_status status : ℕ) (told : Option Line) → AreDisks (length old) → IsRefused content last faults Failed from to old told_status told new
+      pub refused_ends : (then told_status status : ℕ) (told : Option Line) → AreDisks (length old) → IsRefused content last faults Failed from then old told_status told new
           → Tells told before.output after.output before.faults.sink after.faults.sink told_status status → Goal status
-      refused_ends to told_status status told disks r tells =
+      refused_ends then told_status status told disks r tells =
           let P : Option Line → Type 0 = λ t. Tells t before.output after.output before.faults.sink after.faults.sink told_status status in
           let Q : ℕ → Type 0 = λ s. Tells (line_of r.why) before.output after.output before.faults.sink after.faults.sink s status in
-          refused_by r.why to status disks r.cause r.kept r.failed (subst Q r.status_is (subst P r.told_is tells))
+          refused_by r.why then status disks r.cause r.kept r.failed (subst Q r.status_is (subst P r.told_is tells))
 
     -- it has one of these statuses
     pub known_not_usage : (status : ℕ) → Goal status → status ≢ 1
@@ -222,6 +223,6 @@ module _ (before after : Outside) where
         by (inr (inr (inr known))) one = not_usage known.0 (sym known.1 ∙ one)
 
 -- the same count of back ends
-pub ends_as : {D : Type 0} {content : D → Option Image} {last faults : D → ℕ} {Failed : List D → List D → Type 0} (from count n : ℕ) → count ≡ n → (status : ℕ) (before after : Outside) (old new : List D)
-    → Ends content last faults Failed from count status before after old new → Ends content last faults Failed from n status before after old new
-ends_as {D} {content} {last} {faults} {Failed} from count n same status before after old new ends = subst (λ m. Ends content last faults Failed from m status before after old new) same ends
+pub ends_as : {D : Type 0} {content : D → Option Image} {left : D → ℕ → Image → Type 0} {last faults : D → ℕ} {Failed : List D → List D → Type 0} (from to count n : ℕ) → count ≡ n → (status : ℕ) (before after : Outside) (old new : List D)
+    → Ends content left last faults Failed from to count status before after old new → Ends content left last faults Failed from to n status before after old new
+ends_as {D} {content} {left} {last} {faults} {Failed} from to count n same status before after old new ends = subst (λ m. Ends content left last faults Failed from to m status before after old new) same ends

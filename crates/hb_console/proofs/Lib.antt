@@ -2,3 +2,4 @@ mod Tellings
 mod Origins
 mod Ending
 mod Commands
+mod Leaving

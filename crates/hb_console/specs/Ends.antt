@@ -9,7 +9,7 @@ use Rattle.hb_types.specs.declared.names.Tx.{Tx}
 use Rattle.hb_types.specs.declared.request.Request.TheVariants as request
 use Rattle.hb_types.specs.declared.trail.TrailEntry.{TrailEntry}
 use Rattle.hb_node.specs.Laws.{asked_of}
-use Rattle.hb_node.specs.Lists.{asked}
+use Rattle.hb_node.specs.Lists.{Lists, asked}
 use Rattle.hb_print.specs.Texts.{text_of}
 use Rattle.hb_stepper.specs.Running.{Running}
 use Rattle.hb_system.specs.Disks.{AreKept, IsKept, IsEmpty, HasFault}
@@ -18,6 +18,7 @@ use Rattle.hb_acts.specs.declared.stop.Stop.{Stop}
 use Rattle.hb_acts.specs.declared.stop.Stop.TheVariants.{Memory}
 use Rattle.hb_acts.specs.Outside.{Outside, GoesOn, HasLongLine}
 use Rattle.hb_acts.specs.Putting.{IsFront}
+use Rattle.hb_console.specs.Leaving.{DisksLeft}
 use Rattle.hb_acts.specs.Runs.{Finishes, StopsAt}
 use Rattle.hb_acts.specs.Stops.{code_of}
 
@@ -34,9 +35,10 @@ pub record IsOrigin (n : ℕ) (origin : Running) : Type 0 where
 abbrev pub AreStarted : {N : Type 0} → (N → List TrailEntry) → List N → Type 0
 AreStarted {N} trail nodes = (k : ℕ) (d : N) → k < length nodes → (doubts : List Tx) × (asked_of (trail (slice_index_or nodes k d)) ≡ asked request.Start (answer.Started doubts) ∷ [])
 
--- the system was opened, and this is so from there on of the script, where its source tells it
-abbrev pub FromOrigin : ℕ → Outside → (Running → List ℕ → Type 0) → Type 0
-FromOrigin n before P = (origin : Running) × IsOrigin n origin × IfSome before.input (P origin)
+-- the system was opened, and its sessions and nodes came from there to an end, which stands on the disks; this is so of the script between
+-- them, where its source tells it
+abbrev pub FromOrigin : ℕ → Outside → (Lists → Type 0) → (Running → Running → List ℕ → Type 0) → Type 0
+FromOrigin n before Left P = (origin : Running) × IsOrigin n origin × (end : Running) × Left end.lists × IfSome before.input (P origin end)
 
 -- nothing was read, and nothing was put
 pub record IsUnread (before after : Outside) : Type 0 where
@@ -59,12 +61,12 @@ pub record IsDamaged {D : Type 0} (content : D → Option Image) (faults : D →
 abbrev pub DiskFailed : {D : Type 0} → (D → Option Image) → (D → ℕ) → (D → ℕ) → (List D → List D → Type 0) → ℕ → List D → List D → Type 0
 DiskFailed {D} content last faults Failed from old new = HasFault faults old new ⊎ ((taken : List D) × (mid : ℕ) × AreKept content last faults from mid old taken × Failed taken new)
 
--- how a run over the disks of a system of n back ends, begun at a moment, ends
-pub record Ends {D : Type 0} (content : D → Option Image) (last faults : D → ℕ) (Failed : List D → List D → Type 0) (from n status : ℕ) (before after : Outside) (old new : List D) : Type 0 where
+-- how a run over the disks of a system of n back ends, from a moment to another, ends
+pub record Ends {D : Type 0} (content : D → Option Image) (left : D → ℕ → Image → Type 0) (last faults : D → ℕ) (Failed : List D → List D → Type 0) (from to n status : ℕ) (before after : Outside) (old new : List D) : Type 0 where
   pub known : (status ≡ 0) ⊎ ((status ≡ 5) ⊎ ((status ≡ 6) ⊎ ((stop : Stop) × (status ≡ code_of stop))))
   pub goes_on : GoesOn before after
-  pub finished : status ≡ 0 → FromOrigin n before (λ origin. Finishes origin before after)
-  pub stopped : (stop : Stop) → status ≡ code_of stop → ((stop ≡ Memory) × IsUnread before after) ⊎ FromOrigin n before (λ origin. StopsAt origin before after stop)
+  pub finished : status ≡ 0 → FromOrigin n before (DisksLeft content left last from to old new) (λ origin end. Finishes origin end before after)
+  pub stopped : (stop : Stop) → status ≡ code_of stop → ((stop ≡ Memory) × IsUnread before after) ⊎ FromOrigin n before (DisksLeft content left last from to old new) (λ origin end. StopsAt origin end before after stop)
   -- 3, 4 and 5 come only where the device's count rose
   pub source_failed : status ≡ 3 → Rose before.faults.source after.faults.source
   pub sink_failed : status ≡ 4 → Rose before.faults.sink after.faults.sink

@@ -40,8 +40,8 @@ pub fn console_run<S: Source, O: Sink, D: Disk>(
     // What stands at each other status.
     ensures disks { length result.disks.items ≡ length disks.items }
     ensures clock { clock.old ≤ clock.new }
-    ensures ends { (n : ℕ) → IsRun words.now n → result.status ≢ 1 → Ends D.content D.last D.faults
-        (HasFailed D.left D.faults ⟦<Front<D> as Node>⟧.leaves ⟦<Server<D, Whole> as Node>⟧.leaves ⟦<Front<D> as Node>⟧.faults ⟦<Server<D, Whole> as Node>⟧.faults) clock.old n result.status
+    ensures ends { (n : ℕ) → IsRun words.now n → result.status ≢ 1 → Ends D.content D.left D.last D.faults
+        (HasFailed D.left D.faults ⟦<Front<D> as Node>⟧.leaves ⟦<Server<D, Whole> as Node>⟧.leaves ⟦<Front<D> as Node>⟧.faults ⟦<Server<D, Whole> as Node>⟧.faults) clock.old clock.new n result.status
         (seen S.left S.faults O.held O.faults source.old sink.old)
         (seen S.left S.faults O.held O.faults source.new sink.new)
         disks.items result.disks.items }

@@ -6,9 +6,11 @@ ghost use Rattle.hb_acts.specs.Outside.{seen};
 ghost use Rattle.hb_acts.specs.Runs.{Runs};
 ghost use Rattle.hb_acts.specs.Stops.{status_of};
 ghost use Rattle.hb_reach.specs.Names.{AreNumbered};
+ghost use Rattle.hb_reach.specs.Told.{meanings};
 ghost use Rattle.hb_system.specs.Opening.{HasFailed};
 ghost use Rattle.hb_system.specs.Variants.{of_kind};
 ghost use Rattle.hb_console.specs.Ends.{AreStarted, Ends, IsOrigin};
+ghost use Rattle.hb_console.specs.Leaving.{AreLawful, SystemLeft};
 ghost use Rattle.hb_console.specs.Telling.{Tells};
 
 use crate::telling::tell;
@@ -64,7 +66,10 @@ fn run_system<S: Source, O: Sink, D: Disk, F: OfLog<D>, N: OfDisks<D>, M: Node +
     requires slots { (vec_len system.slots ≡ 0) × (2 * vec_len system.nodes ≤ vec_capacity system.slots) }
     requires started { AreStarted (of_kind F.trail N.trail) system.nodes.items }
     requires manager { M.trail manager ≡ [] }
-    ensures runs { (origin : Running) × IsOrigin count origin × (ended : Result (Unit {0}) AnyStop) × (result.status ≡ status_of ended) × Runs origin
+    ensures runs { (origin : Running) × IsOrigin count origin × (end : Running)
+        × (AreLawful (meanings (of_kind F.named N.named) (of_kind F.trail N.trail) (of_kind F.explains N.explains) (of_kind F.leaves N.leaves) (of_kind F.last N.last)) clock.old system.nodes.items
+        → SystemLeft D.left clock.new end.lists result.disks.items)
+        × (ended : Result (Unit {0}) AnyStop) × (result.status ≡ status_of ended) × Runs origin end
         (seen S.left S.faults O.held O.faults source.old sink.old)
         (seen S.left S.faults O.held O.faults source.new sink.new)
         ended }
@@ -95,8 +100,8 @@ pub(crate) fn run_over<S: Source, O: Sink, D: Disk, F: OfLog<D>, N: OfDisks<D>, 
     requires manager { M.trail manager ≡ [] }
     ensures disks { length result.disks.items ≡ length disks.items }
     ensures clock { clock.old ≤ clock.new }
-    ensures ends { Ends D.content D.last D.faults
-        (HasFailed D.left D.faults F.leaves N.leaves F.faults N.faults) clock.old count result.status
+    ensures ends { Ends D.content D.left D.last D.faults
+        (HasFailed D.left D.faults F.leaves N.leaves F.faults N.faults) clock.old clock.new count result.status
         (seen S.left S.faults O.held O.faults source.old sink.old)
         (seen S.left S.faults O.held O.faults source.new sink.new)
         disks.items result.disks.items }

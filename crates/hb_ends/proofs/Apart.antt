@@ -80,7 +80,8 @@ pub record Place (lists : List (List Call)) (t : Txn) : Type 0 where
   pub at_place : slice_get (begins_of list) place ≡ Some t.tx
   pub begun : IsIn t.tx (begins_of list)
 
-begins_are : (t : ℕ) (f p : List Call) (b : Call) (rest : List Call) → begins_of p ≡ [] → begins_of (b ∷ []) ≡ t ∷ [] → begins_of ((f ++ p) ++ b ∷ rest) ≡ begins_of f ++ t ∷ begins_of rest
+begins_are : (t : ℕ) (f p : List Call) (b : Call) (rest : List Call) → begins_of p ≡ [] → begins_of (b ∷ []) ≡ t ∷ []
+    → begins_of ((f ++ p) ++ b ∷ rest) ≡ begins_of f ++ t ∷ begins_of rest
 begins_are t f p b rest none begun =
     begins_append (f ++ p) (b ∷ rest)
     ∙ ap (λ l. l ++ begins_of (b ∷ rest)) (begins_append f p ∙ ap (λ l. begins_of f ++ l) none ∙ append-nil (begins_of f))

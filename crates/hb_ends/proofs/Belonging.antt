@@ -15,7 +15,7 @@ use Rattle.hb_model.specs.Answers.{HasAsked, is_undoing}
 use Rattle.hb_model.specs.Items.{Item, calls_of}
 use Rattle.hb_disks.specs.Images.{Logs}
 use Rattle.hb_disks.specs.Redo.{Decided}
-use Rattle.hb_law.specs.Callers.{is_begun}
+use Rattle.hb_law.specs.Callers.{MayDecide}
 use Rattle.hb_law.specs.Histories.{Labelled, Trails, asked_of}
 use Rattle.hb_law.specs.Transactions.{AllAsk, IsApart, IsTxnOf, Txn, begins_of, caller_of, is_idle, own_items, tx_asked}
 use Rattle.hb_coordlaws.specs.Ascending.{TransactionsAscend, given}
@@ -153,7 +153,7 @@ module _ (ta : TransactionsAscend) (base logs : Logs) (trails : Trails) (lists :
     decide_within : (c : Call) (u : ℕ) (votes : List Vote) → IsIn c o.course → c.request ≡ request.Decide (record { 0 = u }) votes → u ≡ t.tx
     decide_within c u votes i q =
         let s = stands_at c o.course i in
-        let w : (u ≡ t.tx) × Rattle.hb_law.specs.Callers.MayDecide votes s.front = subst (Within t.tx s.front c.node.0) q (behind_at (λ f y. Within t.tx f y.node.0 y.request) [] s.front c s.back (subst (IsCourse t.tx) s.parts o.is_course)) in
+        let w : (u ≡ t.tx) × MayDecide votes s.front = subst (Within t.tx s.front c.node.0) q (behind_at (λ f y. Within t.tx f y.node.0 y.request) [] s.front c s.back (subst (IsCourse t.tx) s.parts o.is_course)) in
         w.0
 
     pub decide_is_own : (c : Call) (u : ℕ) (votes : List Vote) → IsIn c (calls_of t.items) → c.request ≡ request.Decide (record { 0 = u }) votes → u ≡ t.tx

@@ -3,7 +3,9 @@ use Rattle.std.proofs.Common.{◌≡◌, ◌≢◌, ◌⊎◌, ◌∙◌, ℕ, �
 use Rattle.std.specs.Prelude.{IsTrue, slice_get, ⊤}
 use Rattle.std.proofs.lemmas.Bool.{false≢true}
 use Rattle.hb_types.specs.declared.answer.Answer.TheVariants as answer
+use Rattle.hb_types.specs.declared.names.Tx.{Tx}
 use Rattle.hb_types.specs.declared.request.Request.TheVariants as request
+use Rattle.hb_types.specs.declared.request.Vote.{Vote}
 use Rattle.hb_types.specs.declared.trail.Call.{Call}
 use Rattle.hb_types.specs.Lists.{Each, Has, IsIn}
 use Rattle.hb_types.proofs.Ascending.{Each-in, Each-of, Has-back, Has-front, in_Each}
@@ -64,7 +66,8 @@ apart_parts d (x ∷ xs) ys a (inr i) j = apart_parts d xs ys a.1 i j
 
 -- ---- what lines tell, by their kinds
 
-statement_ends : (logs : Logs) (tx : ℕ) (r : Reply) → MatchOption (number_of r) ⊤ (IsDecidedAs logs tx) → (IsTrue (says_undone r) → IsUndecided logs tx) → StatementEnds logs tx r
+statement_ends : (logs : Logs) (tx : ℕ) (r : Reply) → MatchOption (number_of r) ⊤ (IsDecidedAs logs tx) → (IsTrue (says_undone r) → IsUndecided logs tx)
+    → StatementEnds logs tx r
 statement_ends logs tx (reply.Committed number) n u = n
 statement_ends logs tx r n u = u
 
@@ -73,7 +76,8 @@ of_statements logs tx (sql st) r s h = h
 of_statements logs tx tending r s h = h
 of_statements logs tx (turn table most) r s h = absurd s
 
-turn_ends : (logs : Logs) (tx : ℕ) (r : Reply) → MatchOption (number_of r) ⊤ (IsDecidedAs logs tx) → ((IsTrue (tells_decision r) → ⊥) → IsUndecided logs tx) → TurnEnds logs tx r
+turn_ends : (logs : Logs) (tx : ℕ) (r : Reply) → MatchOption (number_of r) ⊤ (IsDecidedAs logs tx) → ((IsTrue (tells_decision r) → ⊥) → IsUndecided logs tx)
+    → TurnEnds logs tx r
 turn_ends logs tx (reply.OutcomeUnknown o) n u = tt
 turn_ends logs tx (reply.Moved rows group number) n u = n
 turn_ends logs tx (reply.Complete number) n u = n
@@ -95,7 +99,8 @@ tells_none calls (checked entries) r h q = h
 tells_none calls (moved g f) r h q = h
 tells_none calls finished r h q = h
 
-turn_undecided : (before : List Item) (place : ℕ) (w : Doing) (calls : List Call) (lines : List Reply) (r : Reply) → IsTurning w → TurnIsRight before (record { place = place; doing = w; calls = calls; lines = lines })
+turn_undecided : (before : List Item) (place : ℕ) (w : Doing) (calls : List Call) (lines : List Reply) (r : Reply) → IsTurning w
+    → TurnIsRight before (record { place = place; doing = w; calls = calls; lines = lines })
     → IsIn r lines → (IsTrue (tells_decision r) → ⊥) → HasAsked is_decide calls → MayBeDecided calls → ⊥
 turn_undecided before place (turn table most) calls lines r s h i q d m = let k = h.decides d in tells_none calls k.0 r (in_Each (TurnTells calls k.0) r lines i k.2) q m
 turn_undecided before place (sql st) calls lines r s h i q d m = absurd s
@@ -141,20 +146,23 @@ module _ (laws : Laws) (w : World) (further : List Decided) (g : Together writte
   aborted_so : (t : ℕ) → Has (is_aborted_outcome t) (asked_of fes.0) → IsUndecided w.logs t
   aborted_so t h = aborted laws.agree w.base w.logs w.trails (map calls_of w.lists) callings fes.0 fes.1 grown t h
 
-  of_fes : (caller : ℕ) (list : List Item) (i : Item) (c : Call) → slice_get w.lists caller ≡ Some list → IsIn i list → IsIn c i.calls → IsForFes c.request → (IsTrue (tells_nothing c.answer) → ⊥)
+  of_fes : (caller : ℕ) (list : List Item) (i : Item) (c : Call) → slice_get w.lists caller ≡ Some list → IsIn i list → IsIn c i.calls → IsForFes c.request
+      → (IsTrue (tells_nothing c.answer) → ⊥)
       → IsIn (asked_by c) (asked_of fes.0)
   of_fes caller list i c here within member for_fes tells =
       told_by_fes laws.ascend w.base w.logs w.trails (map calls_of w.lists) callings fes.0 fes.1 caller (calls_of list) c (map_got calls_of w.lists caller list here) (in_calls i c list within member) for_fes tells
 
   -- ---- outcomes
 
-  committed_so : (caller : ℕ) (list : List Item) (i : Item) → slice_get w.lists caller ≡ Some list → IsIn i list → (tx n : ℕ) → WasAnswered tx (answer.Decided (record { 0 = n })) i.calls → IsDecidedAs w.logs tx n
+  committed_so : (caller : ℕ) (list : List Item) (i : Item) → slice_get w.lists caller ≡ Some list → IsIn i list → (tx n : ℕ)
+      → WasAnswered tx (answer.Decided (record { 0 = n })) i.calls → IsDecidedAs w.logs tx n
   committed_so caller list i here within tx n h =
       let c = found (λ (c : Call). (c.request ≡ request.Outcome (record { 0 = tx })) × (c.answer ≡ answer.Decided (record { 0 = n }))) i.calls h in
       let member = of_fes caller list i c.0 here within c.1 (subst IsForFes (sym c.2.0) tt) (λ k. false≢true (subst (λ z. IsTrue (tells_nothing z)) c.2.1 k)) in
       decided_so tx n (Has-in (IsToldDecided tx n) (asked_by c.0) (asked_of fes.0) member (record { asked = inl c.2.0; answered = c.2.1 }))
 
-  undecided_so : (caller : ℕ) (list : List Item) (i : Item) → slice_get w.lists caller ≡ Some list → IsIn i list → (tx : ℕ) → WasAnswered tx answer.Aborted i.calls → IsUndecided w.logs tx
+  undecided_so : (caller : ℕ) (list : List Item) (i : Item) → slice_get w.lists caller ≡ Some list → IsIn i list → (tx : ℕ) → WasAnswered tx answer.Aborted i.calls
+      → IsUndecided w.logs tx
   undecided_so caller list i here within tx h =
       let c = found (λ (c : Call). (c.request ≡ request.Outcome (record { 0 = tx })) × (c.answer ≡ answer.Aborted)) i.calls h in
       let member = of_fes caller list i c.0 here within c.1 (subst IsForFes (sym c.2.0) tt) (λ k. false≢true (subst (λ z. IsTrue (tells_nothing z)) c.2.1 k)) in
@@ -187,7 +195,7 @@ module _ (laws : Laws) (w : World) (further : List Decided) (g : Together writte
         c : (c : Call) × IsIn c i.calls × IsTrue (is_decide c.request) × (c.answer ≡ answer.Decided (record { 0 = n }))
         c = was_decided n i.calls h
 
-        by : (tx : Rattle.hb_types.specs.declared.names.Tx.Tx) × (votes : List Rattle.hb_types.specs.declared.request.Vote.Vote) × (c.0.request ≡ request.Decide tx votes) → IsDecidedAs w.logs t.tx n
+        by : (tx : Tx) × (votes : List Vote) × (c.0.request ≡ request.Decide tx votes) → IsDecidedAs w.logs t.tx n
         by q =
             let own = laws.owner w.base w.logs w.trails (map calls_of w.lists) fes.0 t.tx callings fes.1 its_given in
             let of_t : q.0.0 ≡ t.tx = decide_is_own laws.ascend w.base w.logs w.trails w.lists fes.0 callings fes.1 t x own c.0 q.0.0 q.1 (in_calls i c.0 t.items within c.1) q.2 in

@@ -15,7 +15,7 @@ use Rattle.hb_model.specs.Items.{Doing, Item, calls_of, sql, tending, turn}
 use Rattle.hb_model.specs.Outside.{says_undone}
 use Rattle.hb_law.specs.Callers.{Asks, MayBeDecided, is_settled}
 use Rattle.hb_law.specs.ShownEnds.{last_item}
-use Rattle.hb_law.specs.Transactions.{AllAnswered, AllAsk, CommitTells, IsBoundItem, IsBoundStatement, IsOfStatements, IsReplyTo, TendingTells, is_told, reply_in, tx_asked}
+use Rattle.hb_law.specs.Transactions.{AllAnswered, AllAsk, AreBeside, CommitTells, IsBoundItem, IsBoundStatement, IsOfStatements, IsReplyTo, TendingTells, is_told, reply_in, tx_asked}
 use Rattle.hb_parts.specs.Courses.{AskNone}
 use Rattle.hb_whose.proofs.Parts.{is_there}
 use Rattle.hb_steps.proofs.RunThroughs.{InOf, first, in_of, second}
@@ -35,7 +35,8 @@ commit_undone calls (reply.Committed number) h u = absurd (false≢true u)
 commit_undone calls (reply.OutcomeUnknown o) h u = absurd (false≢true u)
 commit_undone calls r h u = (h.0, h.2)
 
-commit_lines : (calls : List Call) (lines : List Reply) → CommitTells calls (reply_in lines) → length lines ≤ 1 → Each (λ r. IsTrue (says_undone r) → (¬ (MayBeDecided calls)) × HasAsked is_undoing calls) lines
+commit_lines : (calls : List Call) (lines : List Reply) → CommitTells calls (reply_in lines) → length lines ≤ 1
+    → Each (λ r. IsTrue (says_undone r) → (¬ (MayBeDecided calls)) × HasAsked is_undoing calls) lines
 commit_lines calls [] h n = tt
 commit_lines calls (r ∷ []) h n = (commit_undone calls r h, tt)
 commit_lines calls (r ∷ s ∷ rs) h n = absurd (omega (arith, n))
@@ -43,13 +44,15 @@ commit_lines calls (r ∷ s ∷ rs) h n = absurd (omega (arith, n))
 tending_lines : (calls : List Call) (lines : List Reply) → Each (TendingTells calls) lines → Each (λ r. IsTrue (says_undone r) → HasAsked is_undoing calls) lines
 tending_lines calls lines e = Each-of (TendingTells calls) (λ r. IsTrue (says_undone r) → HasAsked is_undoing calls) lines (λ r h u. elim h [ inl t ↦ absurd (told_not_undone r t u) | inr k ↦ k.1 ]) e
 
-statement_lines : (st : Statement) (calls : List Call) (lines : List Reply) → IsBoundStatement st calls lines → length lines ≤ 1 → Each (λ r. IsTrue (says_undone r) → HasAsked is_undoing calls) lines
+statement_lines : (st : Statement) (calls : List Call) (lines : List Reply) → IsBoundStatement st calls lines → length lines ≤ 1
+    → Each (λ r. IsTrue (says_undone r) → HasAsked is_undoing calls) lines
 statement_lines statement.Commit calls lines h n =
     Each-of (λ r. IsTrue (says_undone r) → (¬ (MayBeDecided calls)) × HasAsked is_undoing calls) (λ r. IsTrue (says_undone r) → HasAsked is_undoing calls) lines (λ r f u. (f u).1) (commit_lines calls lines h.1 n)
 statement_lines st calls lines h n = Each-of (IsReplyTo st calls) (λ r. IsTrue (says_undone r) → HasAsked is_undoing calls) lines (λ r k. k.undone) h.2
 
 -- what says so was asked for in its item
-asked_undone : (place : ℕ) (w : Doing) (calls : List Call) (lines : List Reply) → IsBoundItem (record { place = place; doing = w; calls = calls; lines = lines }) → IsOfStatements w → length lines ≤ 1
+asked_undone : (place : ℕ) (w : Doing) (calls : List Call) (lines : List Reply) → IsBoundItem (record { place = place; doing = w; calls = calls; lines = lines })
+    → IsOfStatements w → length lines ≤ 1
     → Each (λ r. IsTrue (says_undone r) → HasAsked is_undoing calls) lines
 asked_undone place (sql st) calls lines h s n = statement_lines st calls lines h n
 asked_undone place tending calls lines h s n = tending_lines calls lines h.2
@@ -61,17 +64,20 @@ none_undone i h s n un =
 
 -- ---- the item that decides
 
-undecided_statement : (st : Statement) (calls : List Call) (lines : List Reply) → IsBoundStatement st calls lines → HasAsked is_decide calls → sql st ≡ sql statement.Commit
+undecided_statement : (st : Statement) (calls : List Call) (lines : List Reply) → IsBoundStatement st calls lines → HasAsked is_decide calls
+    → sql st ≡ sql statement.Commit
 undecided_statement statement.Commit calls lines h d = refl
 undecided_statement st calls lines h d = absurd (h.0 d)
 
-decides_commit : (place : ℕ) (w : Doing) (calls : List Call) (lines : List Reply) → IsBoundItem (record { place = place; doing = w; calls = calls; lines = lines }) → IsOfStatements w → HasAsked is_decide calls
+decides_commit : (place : ℕ) (w : Doing) (calls : List Call) (lines : List Reply) → IsBoundItem (record { place = place; doing = w; calls = calls; lines = lines })
+    → IsOfStatements w → HasAsked is_decide calls
     → w ≡ sql statement.Commit
 decides_commit place (sql st) calls lines h s d = undecided_statement st calls lines h d
 decides_commit place tending calls lines h s d = absurd (h.0 d)
 decides_commit place (turn table most) calls lines h s d = absurd s
 
-commit_tells : (place : ℕ) (w : Doing) (calls : List Call) (lines : List Reply) → IsBoundItem (record { place = place; doing = w; calls = calls; lines = lines }) → w ≡ sql statement.Commit
+commit_tells : (place : ℕ) (w : Doing) (calls : List Call) (lines : List Reply) → IsBoundItem (record { place = place; doing = w; calls = calls; lines = lines })
+    → w ≡ sql statement.Commit
     → CommitTells calls (reply_in lines)
 commit_tells place w calls lines h e = let k : IsBoundItem (record { place = place; doing = sql statement.Commit; calls = calls; lines = lines }) = subst (λ v. IsBoundItem (record { place = place; doing = v; calls = calls; lines = lines })) e h in k.1
 
@@ -99,7 +105,8 @@ one_answer : (lines : List Reply) → length lines ≡ 1 → length lines ≤ 1
 one_answer lines e = omega (arith, e)
 
 module _ (t : ℕ) where
-  decider : (i : Item) (front : List Call) (decide : Call) (back : List Call) → IsBoundItem i → IsOfStatements i.doing → length i.lines ≤ 1 → i.calls ≡ front ++ decide ∷ back → IsTrue (is_decide decide.request)
+  decider : (i : Item) (front : List Call) (decide : Call) (back : List Call) → IsBoundItem i → IsOfStatements i.doing → length i.lines ≤ 1
+      → i.calls ≡ front ++ decide ∷ back → IsTrue (is_decide decide.request)
       → IsTrue (is_settled decide.answer) → Kept (i ∷ [])
   decider i front decide back h s n e d st =
       let asked : HasAsked is_decide i.calls = subst (HasAsked is_decide) (sym e) (Has-in (λ c. IsTrue (is_decide c.request)) decide (front ++ decide ∷ back) (is_there decide front back) d) in
@@ -113,16 +120,18 @@ module _ (t : ℕ) where
       }
 
   -- an item behind the decision would ask something of the transaction
-  none_behind : (j : Item) (js : List Item) (done calls more : List Call) → AllAsk t (done ++ calls) (j ∷ js) → HasAsked is_decide calls → AskNone t (more ++ calls_of (j ∷ js)) → ⊥
+  none_behind : (j : Item) (js : List Item) (done calls more : List Call) → AllAsk t (done ++ calls) (j ∷ js) → HasAsked is_decide calls
+      → AskNone t (more ++ calls_of (j ∷ js)) → ⊥
   none_behind j js done calls more a d n = by a.0.1
     where
-      by : Has (λ c. tx_asked c.request ≡ Some t) j.calls ⊎ Rattle.hb_law.specs.Transactions.AreBeside (done ++ calls) j.calls → ⊥
+      by : Has (λ c. tx_asked c.request ≡ Some t) j.calls ⊎ AreBeside (done ++ calls) j.calls → ⊥
       by (inl h) =
           let c = found (λ (c : Call). tx_asked c.request ≡ Some t) j.calls h in
           in_Each (λ y. tx_asked y.request ≡ Some t → ⊥) c.0 (j.calls ++ calls_of js) (Has-front (λ y. y ≡ c.0) j.calls (calls_of js) c.1) (each_back t more (calls_of (j ∷ js)) n) c.2
       by (inr b) = b.undecided (Has-back (λ c. IsTrue (is_decide c.request)) done calls d)
 
-  pub kept : (i : Item) (is : List Item) (done front : List Call) (decide : Call) (back : List Call) → Each IsBoundItem (i ∷ is) → Each (λ j. IsOfStatements j.doing) (i ∷ is) → AllAnswered (i ∷ is)
+  pub kept : (i : Item) (is : List Item) (done front : List Call) (decide : Call) (back : List Call) → Each IsBoundItem (i ∷ is)
+      → Each (λ j. IsOfStatements j.doing) (i ∷ is) → AllAnswered (i ∷ is)
       → AllAsk t (done ++ i.calls) is → calls_of (i ∷ is) ≡ front ++ decide ∷ back → IsTrue (is_decide decide.request) → IsTrue (is_settled decide.answer) → ¬ (HasAsked is_undoing front) → AskNone t back
       → Kept (i ∷ is)
   kept i [] done front decide back bound kinds answered asks e d st un none = here (in_of i.calls [] front decide back e)

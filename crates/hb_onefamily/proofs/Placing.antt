@@ -88,7 +88,8 @@ in_crun s [] t a r h = absurd h
 in_crun s (b ∷ more) t a r (inl e) = (s, subst (λ z. coordinator.Right s z.request z.answer) e r.1.right)
 in_crun s (b ∷ more) t a r (inr h) = in_crun r.0 more t a r.2 h
 
-module _ (base logs : Logs) (trails : Trails) (lists : List (List Call)) (k : Callings base logs trails lists) (fes : List Labelled) (at : slice_get trails 0 ≡ Some fes) where
+module _ (base logs : Logs) (trails : Trails) (lists : List (List Call)) (k : Callings base logs trails lists) (fes : List Labelled)
+    (at : slice_get trails 0 ≡ Some fes) where
   in_parts : (j : ℕ) → suc j < length trails → j < length base.servers
   in_parts j lt = let n : length trails ≡ length base.servers + 1 = k.nodes.nodes in omega (arith, lt, n)
 

@@ -164,7 +164,8 @@ module _ (laws : Laws) (base logs : Logs) (trails : Trails) (lists : List (List 
       pub read : IsDecidedRead server.before (end_behind 0 server.before) ahead (asked_by x) behind run.last (decided logs) d.tx d.number
       pub rows : seen_by (whole server.before run.last) (decided logs) d.number (writes_of d.tx ahead) ≡ rows_of x.node.0 (afters (family logs front) done)
 
-    module _ (asks : tx_asked x.request ≡ Some d.tx) (open_at : IsOpen x.node.0 done) (plain : is_decide x.request ≡ false) (tells : IsTrue (tells_nothing x.answer) → ⊥)
+    module _ (asks : tx_asked x.request ≡ Some d.tx) (open_at : IsOpen x.node.0 done) (plain : is_decide x.request ≡ false)
+        (tells : IsTrue (tells_nothing x.answer) → ⊥)
         (stood : stands (asked_by x) ≡ true) (not_fes : (u : coordinator.CState) → coordinator.Right u x.request x.answer → ⊥) where
       server : AtServer base logs trails x.node.0
       server =

@@ -150,13 +150,15 @@ pub record WriteLaws : Type 0 where
   pub log_kept : LogIsKept
   pub says : RightLogsSay
 
-module _ (laws : Laws) (more : WriteLaws) (base logs : Logs) (trails : Trails) (lists : List (List Call)) (fes : List Labelled) (front back : List Decided) (d : Decided)
+module _ (laws : Laws) (more : WriteLaws) (base logs : Logs) (trails : Trails) (lists : List (List Call)) (fes : List Labelled) (front back : List Decided)
+    (d : Decided)
     (k : Callings base logs trails lists) (right : AreLogs logs) (at : slice_get trails 0 ≡ Some fes) (whole_is : decided logs ≡ front ++ d ∷ back)
     (nd : IsNewDecision trails lists fes d) where
   course_at : (f : List Call) (y : Call) (r : List Call) → nd.owned.course ≡ f ++ y ∷ r → Within d.tx f y.node.0 y.request
   course_at f y r e = behind_at (λ f y. Within d.tx f y.node.0 y.request) [] f y r (subst (IsCourse d.tx) e nd.owned.is_course)
 
-  module _ (place : ℕ) (before after : List LogItem) (trail : List Labelled) (got_before : slice_get base.servers place ≡ Some before) (got_after : slice_get logs.servers place ≡ Some after)
+  module _ (place : ℕ) (before after : List LogItem) (trail : List Labelled) (got_before : slice_get base.servers place ≡ Some before)
+      (got_after : slice_get logs.servers place ≡ Some after)
       (got_trail : slice_get trails (suc place) ≡ Some trail) where
     one_more : (n : ℕ) → suc n ≡ n + 1
     one_more n = omega arith

@@ -11,7 +11,7 @@ ghost use Rattle.hb_stepper.specs.Names.{Named};
 ghost use Rattle.hb_stepper.specs.Running.{running};
 
 use crate::fault::StepFault;
-use crate::seat::Seat;
+use crate::seat::{Seat, let_go};
 use crate::sessions::Sessions;
 use hb_model::{Line, Reply, Statement, Work};
 use hb_types::{NoMemory, Text};
@@ -36,14 +36,14 @@ fn reply_of(fault: StepFault) -> Reply
 fn not_given(statement: Statement, fault: StepFault) -> Result<(), StepFault>
     ensures { result ≡ Err fault }
 {
-    let _ = statement;
+    let_go(Some(Work::Sql(statement)));
     Err(fault)
 }
 
 fn not_noted(work: Work) -> Result<(), StepFault>
     ensures { result ≡ Err fault_of.NoMemory }
 {
-    let _ = work;
+    let_go(Some(work));
     Err(StepFault::NoMemory)
 }
 
@@ -95,7 +95,7 @@ impl Seat {
     fn note(&mut self, work: Work, held: bool)
         ensures { self.new ≡ record self.old { work = Some work; held = held } }
     {
-        self.work = Some(work);
+        let_go(std::mem::replace(&mut self.work, Some(work)));
         self.held = held;
     }
 }

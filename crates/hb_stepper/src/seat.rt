@@ -20,10 +20,16 @@ impl Drop for Seat {
     fn drop(self) {
         let Seat {
             session: _,
-            work: _,
+            work,
             held: _,
         } = self;
+        let_go(work);
     }
+}
+
+/// What was given is over.
+pub(crate) fn let_go(work: Option<Work>) {
+    let _ = work;
 }
 
 impl Seat {

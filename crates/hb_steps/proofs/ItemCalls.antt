@@ -203,7 +203,8 @@ begins_some a t h = absurd (nil_cons t h)
 
 -- ---- the items
 
-module _ (ta : TransactionsAscend) (base logs : Logs) (trails : Trails) (lists : List (List Item)) (txns : List Txn) (fes : List Labelled) (front : List Decided) (d : Decided)
+module _ (ta : TransactionsAscend) (base logs : Logs) (trails : Trails) (lists : List (List Item)) (txns : List Txn) (fes : List Labelled)
+    (front : List Decided) (d : Decided)
     (it : Itemed base logs trails lists txns) (at : slice_get trails 0 ≡ Some fes) (nd : IsNewDecision trails (map calls_of lists) fes d)
     (fam : OneFamily logs front d nd.owned.course) where
   its : (x : List Item) × (slice_get lists nd.owned.caller ≡ Some x) × (calls_of x ≡ nd.owned.list)

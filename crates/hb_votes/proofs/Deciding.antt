@@ -55,7 +55,8 @@ stood a t n votes q (inr h) =
       answer = answer.Fault false;
     } = (λ i. record { request = q i; answer = h i }) in (ap stands it, ap is_settled h)
 
-module _ (were_asked : DecisionsWereAsked) (owner : OneOwner) (asked_given : AskedOfGiven) (base logs : Logs) (trails : Trails) (lists : List (List Call)) (fes : List Labelled)
+module _ (were_asked : DecisionsWereAsked) (owner : OneOwner) (asked_given : AskedOfGiven) (base logs : Logs) (trails : Trails) (lists : List (List Call))
+    (fes : List Labelled)
     (k : Callings base logs trails lists) (at : slice_get trails 0 ≡ Some fes) where
   course_of : (d : Decided) (a : Asked) → IsIn a (asked_of fes) → IsDecideOf d a → IsNewDecision trails lists fes d
   course_of d a i h =

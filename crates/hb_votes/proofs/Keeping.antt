@@ -156,7 +156,8 @@ voted_below upto t (p ∷ ps) e lt = (clash p.tx e.0, voted_below upto t ps e.1 
 abbrev pub Halves : Type 0
 Halves = (log : List LogItem) → Each IsBranchItem log → EachBehind EndFits [] log → EachBehind LocksFit [] log → LogOK [] log
 
-module _ (halves : Halves) (owner : OneOwner) (asked_given : AskedOfGiven) (news : GivenAreNew) (base logs : Logs) (trails : Trails) (lists : List (List Call)) (k : Callings base logs trails lists) where
+module _ (halves : Halves) (owner : OneOwner) (asked_given : AskedOfGiven) (news : GivenAreNew) (base logs : Logs) (trails : Trails)
+    (lists : List (List Call)) (k : Callings base logs trails lists) where
   pub base_right : (i : ℕ) (before : List LogItem) → slice_get base.servers i ≡ Some before → LogOK [] before
   base_right i before h =
       halves before (each_got (Each IsBranchItem) base.servers i before k.right.log_grammar.servers h)

@@ -76,7 +76,8 @@ gave t (a ∷ more) i = by (given_by a.request a.answer) refl (λ j. gave t more
         first (inl q) = (a, inl refl, e ∙ ap (λ z. Some z) q)
         first (inr j) = let b = rest j in (b.0, inr b.1, b.2)
 
-module _ (laws : FesLaws) (base logs : Logs) (trails : Trails) (lists : List (List Call)) (k : Callings base logs trails lists) (fes : List Labelled) (at : slice_get trails 0 ≡ Some fes) where
+module _ (laws : FesLaws) (base logs : Logs) (trails : Trails) (lists : List (List Call)) (k : Callings base logs trails lists) (fes : List Labelled)
+    (at : slice_get trails 0 ≡ Some fes) where
   abbrev last : coordinator.CState
   last = (k.nodes.fes fes at).last
 

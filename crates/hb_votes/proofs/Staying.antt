@@ -66,7 +66,8 @@ fes_vote : (up : Bool) (u : coordinator.CState) (tx : Tx) (f : Number) → coord
 fes_vote true u tx f r = r
 fes_vote false u tx f r = r
 
-module _ (al : AgreeLaws) (sl : ServerLaws) (grow : DecisionsGrow) (votes_stand : VotesStand) (base logs : Logs) (trails : Trails) (lists : List (List Call)) (k : Callings base logs trails lists)
+module _ (al : AgreeLaws) (sl : ServerLaws) (grow : DecisionsGrow) (votes_stand : VotesStand) (base logs : Logs) (trails : Trails) (lists : List (List Call))
+    (k : Callings base logs trails lists)
     (fes : List Labelled) (at : slice_get trails 0 ≡ Some fes) where
   grows : (d : Decided) → IsIn d (decided base) → IsIn d (decided logs)
   grows d i =
@@ -87,7 +88,8 @@ module _ (al : AgreeLaws) (sl : ServerLaws) (grow : DecisionsGrow) (votes_stand 
   clash : (x y : ℕ) → x ≤ greatest_upto base.fes → greatest_upto base.fes < y → x ≡ y → ⊥
   clash x y a b e = omega (arith, a, b, e)
 
-  module _ (i : ℕ) (before after : List LogItem) (trail : List Labelled) (got_before : slice_get base.servers i ≡ Some before) (got_after : slice_get logs.servers i ≡ Some after)
+  module _ (i : ℕ) (before after : List LogItem) (trail : List Labelled) (got_before : slice_get base.servers i ≡ Some before)
+      (got_after : slice_get logs.servers i ≡ Some after)
       (got_trail : slice_get trails (i + 1) ≡ Some trail) where
     base_agrees : Agrees (decided base) (i + 1) before
     base_agrees = k.right.votes_and_outcomes.servers i before got_before

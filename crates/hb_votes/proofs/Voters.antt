@@ -86,7 +86,8 @@ vote_is_in c (x ∷ xs) f t (inl i) q e =
 vote_is_in c (x ∷ xs) f t (inr i) q e =
     Has-back (λ (v : Vote). (v.node.0 ≡ c.node.0) × (v.floor ≡ f)) (vote_in x.node.0 x.request x.answer) (votes_in xs) (vote_is_in c xs f t i q e)
 
-module _ (base logs : Logs) (trails : Trails) (lists : List (List Call)) (fes : List Labelled) (k : Callings base logs trails lists) (d : Decided) (nd : IsNewDecision trails lists fes d)
+module _ (base logs : Logs) (trails : Trails) (lists : List (List Call)) (fes : List Labelled) (k : Callings base logs trails lists) (d : Decided)
+    (nd : IsNewDecision trails lists fes d)
     (node : ℕ) (trail : List Labelled) (got_trail : slice_get trails node ≡ Some trail) where
   course_at : (f : List Call) (y : Call) (r : List Call) → nd.owned.course ≡ f ++ y ∷ r → Within d.tx f y.node.0 y.request
   course_at f y r e = behind_at (λ f y. Within d.tx f y.node.0 y.request) [] f y r (subst (IsCourse d.tx) e nd.owned.is_course)

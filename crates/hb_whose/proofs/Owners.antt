@@ -28,7 +28,8 @@ use Rattle.hb_whose.proofs.Currents.{IsWithin, asks_within, begins_append, curre
 use Rattle.hb_whose.proofs.Parts.{behind_at, each_behind, each_part, is_there, kept_twice, none_some, some_is, stands_at}
 use Rattle.hb_whose.proofs.Trailing.{asked_in_list, each_got, got, none_own, only_own, own_parts, same_number, some_obeys, calls_at_append}
 
-module _ (transactions_ascend : TransactionsAscend) (base logs : Logs) (trails : Trails) (lists : List (List Call)) (k : Callings base logs trails lists) (fes : List Labelled) (at : slice_get trails 0 ≡ Some fes) where
+module _ (transactions_ascend : TransactionsAscend) (base logs : Logs) (trails : Trails) (lists : List (List Call)) (k : Callings base logs trails lists)
+    (fes : List Labelled) (at : slice_get trails 0 ≡ Some fes) where
   ran : CoordinatorRan base.fes logs.fes fes
   ran = k.nodes.fes fes at
 

@@ -56,7 +56,8 @@ less_is a b e = by (kinds a b)
 nobody : Owner
 nobody = record { session = 0; nth = 0 }
 
-module _ (ascend : TransactionsAscend) (base : List LogItem) (trail : List Asked) (t : coordinator.CState) (run : coordinator.CRun (coordinator.stopped_at base) trail t) where
+module _ (ascend : TransactionsAscend) (base : List LogItem) (trail : List Asked) (t : coordinator.CState)
+    (run : coordinator.CRun (coordinator.stopped_at base) trail t) where
   g : ℕ
   g = greatest_upto base
 
@@ -289,7 +290,8 @@ decides q h = absurd (false≢true h)
 
 -- ---- at fes1
 
-module _ (ta : TransactionsAscend) (base logs : Logs) (trails : Trails) (lists : List (List Call)) (k : Callings base logs trails lists) (fes : List Labelled) (at : slice_get trails 0 ≡ Some fes) where
+module _ (ta : TransactionsAscend) (base logs : Logs) (trails : Trails) (lists : List (List Call)) (k : Callings base logs trails lists) (fes : List Labelled)
+    (at : slice_get trails 0 ≡ Some fes) where
   one_more_is : (j : ℕ) → suc j ≡ j + 1
   one_more_is j = omega arith
 

@@ -11,4 +11,4 @@ returns-then-not-are_disks_of-clause-usage g c = (
 )
 
 pub returns-clause-ends : goal.returns-clause-ends
-returns-clause-ends g c = λ n is not. ends_as _ _ n (c.back_ends-count.ensures.only n is) _ _ _ _ _ c.run_over.ensures.ends
+returns-clause-ends g c = λ n is not. ends_as _ _ _ n (c.back_ends-count.ensures.only n is) _ _ _ _ _ c.run_over.ensures.ends
