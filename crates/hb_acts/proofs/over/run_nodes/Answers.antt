@@ -13,8 +13,7 @@ returns-clause-runs g c =
     let before = seen g.S.Source.left g.S.Source.faults g.O.Sink.held g.O.Sink.faults c.args.source.now c.args.sink.now in
     let after = seen g.S.Source.left g.S.Source.faults g.O.Sink.held g.O.Sink.faults c.run_sessions-ended.new.source c.run_sessions-ended.new.sink in
     let ran = c.run_sessions-ended.ensures.runs in
-    let not_ahead : c.new-reach.result.clock ≤ c.args.clock.now = subst (λ (r : Reach g.row.N.Denot g.row.M.Denot). r.clock ≤ c.args.clock.now) (sym c.new-reach.ensures) (omega arith) in
-    (
+    let not_ahead : c.new-reach.result.clock ≤ c.args.clock.now = subst (λ (r : Reach g.row.N.Denot g.row.M.Denot). r.clock ≤ c.args.clock.now) (sym c.new-reach.ensures) (omega arith) in (
       ran.0,
       nodes_left n m c.args.clock.now c.run_sessions-ended.new.clock c.args.nodes c.into_parts-nodes.result.0 c.args.manager c.new-reach.result c.run_sessions-ended.new.reach ran.0.lists
           c.new-reach.ensures (ap (λ t. t.0) c.into_parts-nodes.ensures) ran.1 (c.run_sessions-ended.ensures.behind not_ahead) c.run_sessions-ended.ensures.goes,
