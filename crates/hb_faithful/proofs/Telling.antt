@@ -1,9 +1,11 @@
--- Each plan ends with a reply that says nothing of a rolling back, or with a refusal that says so exactly if the session rolls back.
-use Rattle.std.proofs.Common.{◌≡◌, ℕ, ◌+◌, ℤ, List, [], ◌∷◌, ◌++◌, length, map, filter, Option, Some, None, Result, Ok, Err, Bool, true, false, cond, refl, subst, take}
-use Rattle.std.specs.Prelude.{IsTrue, flat_map, unwrap_or, if◌then◌else◌}
+-- Each plan ends with a reply that leaves the transaction open, or with a refusal that says that it was rolled back exactly if the
+-- session rolls it back; and only a SELECT shows rows.
+use Rattle.std.proofs.Common.{◌≡◌, ℕ, ◌+◌, ℤ, List, [], ◌∷◌, ◌++◌, length, map, filter, Option, Some, None, Result, Ok, Err, Bool, true, false, not, cond, refl, subst, sym, ap, ◌∙◌, take}
+use Rattle.std.specs.Prelude.{◌&&◌, ◌||◌, IsTrue, flat_map, unwrap_or, if◌then◌else◌}
 use Rattle.std.specs.Option.{option_or, option_to_list}
-use Rattle.std.proofs.lemmas.Bool.{false≢true}
+use Rattle.std.proofs.lemmas.Bool.{and_parts, false≢true}
 use Rattle.hb_types.specs.declared.change.Stored.{Stored}
+use Rattle.hb_types.specs.declared.trail.Call.{Call}
 use Rattle.hb_types.specs.declared.lock.Mode.{Mode}
 use Rattle.hb_types.specs.declared.lock.Mode.TheVariants as mode
 use Rattle.hb_types.specs.declared.places.Path.TheVariants as path
@@ -33,8 +35,11 @@ use Rattle.hb_model.specs.Values.{value_of}
 use Rattle.hb_talk.specs.Plans.{areas_of_routes, considered, delete_plan, entry_under, insert_plan, lock_plan, locking, lying_rows, names, putting, removing, scanning, select_plan, stored_at, table_of, update_plan, walking, with_lying}
 use Rattle.hb_talk.specs.PlansDefine.{add_area_plan, areas, changed_rows, create_area_plan, create_table_plan, new_rows, number_of, plan, put_row, spread_of, spreading, with_areas, with_tables}
 use Rattle.hb_plancalc.specs.Counted.{reply_in}
-use Rattle.hb_faithful.specs.Planned.{PlanTellsUndone, is_planned, is_rolled_back}
-use Rattle.hb_talk.specs.Talk.{Planning, ◌>>=◌, ◌>>◌, lock, pure, scan_group}
+use Rattle.hb_faithful.specs.Planned.{PlanReplies, PlanTellsUndone, is_planned, is_rolled_back}
+use Rattle.hb_law.specs.Standing.{leaves_open}
+use Rattle.hb_law.specs.Transactions.{is_rows, is_select}
+use Rattle.hb_talk.specs.Sessions.{rolls_back}
+use Rattle.hb_talk.specs.Talk.{Follows, Planning, Use, ◌>>=◌, ◌>>◌, lock, pure, scan_group}
 use Rattle.hb_faithful.proofs.Undone.{AreFrank, Any, Ends, IsFrank, Tells, frank_first, said, tells_bind, tells_first, tells_lock, tells_read, tells_pure, tells_refuse, tells_scan, tells_scan_group, tells_some_or, tells_then, tells_writes}
 
 -- ---- parts
@@ -114,15 +119,22 @@ late_frank t sets pred o f r h = either t o (first_some (assigning_refusal t set
 
 -- ---- statements
 
--- a reply that says nothing of a rolling back
-abbrev pub IsKept : Reply → Type 0
-IsKept r = says_undone r ≡ false
+-- a reply that leaves the transaction open, with rows or with none
+abbrev pub IsShown : Reply → Type 0
+IsShown r = leaves_open r && true ≡ true
 
-tells_select : (name : List ℕ) (w : What) (pred : Option Pred) → Tells (select_plan name w pred) IsKept
+abbrev pub IsKept : Reply → Type 0
+IsKept r = leaves_open r && not (is_rows r) ≡ true
+
+-- what a statement may be answered where its transaction goes on
+abbrev pub IsDue : Statement → Reply → Type 0
+IsDue st r = leaves_open r && (is_select st || not (is_rows r)) ≡ true
+
+tells_select : (name : List ℕ) (w : What) (pred : Option Pred) → Tells (select_plan name w pred) IsShown
 tells_select name w pred =
-    tells_bind _ _ IsKept (tells_table name) (λ f. tells_then _ _ IsKept (tells_first (select_refusals f.1 w pred) (select_frank f.1 w pred))
-    (tells_bind _ _ IsKept (tells_considered mode.S f (point f.1 pred)) (λ rows. let t = with_lying f.1 (lying_rows rows) in
-    tells_then _ (pure (reply.Rows (shown t w (chosen t pred)))) IsKept (tells_first (select_refusals t w pred) (select_frank t w pred)) (tells_pure ((reply.Rows (shown t w (chosen t pred)))) IsKept refl))))
+    tells_bind _ _ IsShown (tells_table name) (λ f. tells_then _ _ IsShown (tells_first (select_refusals f.1 w pred) (select_frank f.1 w pred))
+    (tells_bind _ _ IsShown (tells_considered mode.S f (point f.1 pred)) (λ rows. let t = with_lying f.1 (lying_rows rows) in
+    tells_then _ (pure (reply.Rows (shown t w (chosen t pred)))) IsShown (tells_first (select_refusals t w pred) (select_frank t w pred)) (tells_pure ((reply.Rows (shown t w (chosen t pred)))) IsShown refl))))
 
 tells_delete : (name : List ℕ) (pred : Option Pred) → Tells (delete_plan name pred) IsKept
 tells_delete name pred =
@@ -191,7 +203,7 @@ tells_add_area table area_name =
 
 -- ---- all
 
-tells_plan : (back_ends : ℕ) (st : Statement) → IsTrue (is_planned st) → Tells (plan back_ends st) IsKept
+pub tells_plan : (back_ends : ℕ) (st : Statement) → IsTrue (is_planned st) → Tells (plan back_ends st) (IsDue st)
 unfolding plan
 tells_plan back_ends (statement.CreateArea name node) p = tells_create_area back_ends name node
 tells_plan back_ends (statement.CreateTable name columns key area_names) p = tells_create_table name columns key area_names
@@ -204,9 +216,68 @@ tells_plan back_ends (statement.LockTable table exclusive) p = tells_lock_table 
 tells_plan back_ends statement.Commit p = absurd (false≢true p)
 tells_plan back_ends statement.Rollback p = absurd (false≢true p)
 
-pub plan_tells_undone : (st : Statement) → IsTrue (is_planned st) → PlanTellsUndone st
-plan_tells_undone st planned back_ends u v calls r follows = by r (said false (plan back_ends st u) calls (r, v) follows (Ends IsKept) ((tells_plan back_ends st planned).holds u))
+-- ---- what that says of a reply
+
+-- what leaves a transaction open doesn't say that it was rolled back
+pub open_kept : (r : Reply) → leaves_open r ≡ true → says_undone r ≡ false
+open_kept r = elim r as (λ x. leaves_open x ≡ true → says_undone x ≡ false) [
+  | reply.RolledBack ↦ λ e. absurd (false≢true e)
+  | reply.Down node ↦ λ e. absurd (false≢true e)
+  | reply.Stopped node ↦ λ e. absurd (false≢true e)
+  | reply.Lost node ↦ λ e. absurd (false≢true e)
+  | reply.Deadlock edges ↦ λ e. absurd (false≢true e)
+  | reply.NumbersSpent ↦ λ e. absurd (false≢true e)
+  | reply.NoMemory ↦ λ e. absurd (false≢true e)
+  | reply.RolledBackEnd ↦ λ e. absurd (false≢true e)
+  | x ↦ λ e. refl
+]
+
+-- the replies that roll back say so
+frank_undone : (r : Reply) → IsFrank r → says_undone r ≡ rolls_back r
+frank_undone r h = by (rolls_back r) refl (and_parts (if rolls_back r then says_undone r else leaves_open r) (not (is_rows r)) h).0
   where
-    by : (o : Result Reply Reply) → Ends IsKept (o, v) → says_undone (reply_in o) ≡ is_rolled_back o
-    by (Ok x) h = h
-    by (Err e) h = h
+    by : (b : Bool) → rolls_back r ≡ b → (if b then says_undone r else leaves_open r) ≡ true → says_undone r ≡ rolls_back r
+    by true e k = k ∙ sym e
+    by false e k = open_kept r k ∙ sym e
+
+either_true : (a b : Bool) → a ≡ true → a || b ≡ true
+either_true a b e = ap (λ x. x || b) e
+
+or_true : (a : Bool) → a || true ≡ true
+or_true true = refl
+or_true false = refl
+
+frank_replies : (r : Reply) → IsFrank r → leaves_open r || says_undone r ≡ true
+frank_replies r h = by (rolls_back r) (and_parts (if rolls_back r then says_undone r else leaves_open r) (not (is_rows r)) h).0
+  where
+    by : (b : Bool) → (if b then says_undone r else leaves_open r) ≡ true → leaves_open r || says_undone r ≡ true
+    by true k = ap (λ x. leaves_open r || x) k ∙ or_true (leaves_open r)
+    by false k = either_true (leaves_open r) (says_undone r) k
+
+shows_none : {P : Type 0} (b : Bool) → not b ≡ true → b ≡ true → P
+shows_none b e h = absurd (false≢true (ap not (sym h) ∙ e))
+
+select_shows : (a b : Bool) → a || not b ≡ true → b ≡ true → a ≡ true
+select_shows true b e h = refl
+select_shows false b e h = shows_none b e h
+
+-- what a plan comes to
+plan_ends : (st : Statement) → IsTrue (is_planned st) → (back_ends : ℕ) (u v : Use) (calls : List Call) (r : Result Reply Reply) → Follows false (plan back_ends st u) calls (r, v) → Ends (IsDue st) (r, v)
+plan_ends st planned back_ends u v calls r follows = said false (plan back_ends st u) calls (r, v) follows (Ends (IsDue st)) ((tells_plan back_ends st planned).holds u)
+
+pub plan_tells_undone : (st : Statement) → IsTrue (is_planned st) → PlanTellsUndone st
+plan_tells_undone st planned back_ends u v calls r follows = by r (plan_ends st planned back_ends u v calls r follows)
+  where
+    by : (o : Result Reply Reply) → Ends (IsDue st) (o, v) → says_undone (reply_in o) ≡ is_rolled_back o
+    by (Ok x) h = open_kept x (and_parts (leaves_open x) (is_select st || not (is_rows x)) h).0
+    by (Err e) h = frank_undone e h
+
+pub plan_replies : (st : Statement) → IsTrue (is_planned st) → PlanReplies st
+plan_replies st planned back_ends u v calls r follows = by r (plan_ends st planned back_ends u v calls r follows)
+  where
+    by : (o : Result Reply Reply) → Ends (IsDue st) (o, v) → IsTrue (leaves_open (reply_in o) || says_undone (reply_in o)) × (IsTrue (is_rows (reply_in o)) → IsTrue (is_select st))
+    by (Ok x) h =
+        let parts = and_parts (leaves_open x) (is_select st || not (is_rows x)) h in
+        (either_true (leaves_open x) (says_undone x) parts.0, λ rows. select_shows (is_select st) (is_rows x) parts.1 rows)
+    by (Err e) h =
+        let parts = and_parts (if rolls_back e then says_undone e else leaves_open e) (not (is_rows e)) h in (frank_replies e h, λ rows. shows_none (is_rows e) parts.1 rows)

@@ -1,6 +1,7 @@
 -- Which replies of a plan say that the transaction was rolled back: the refusals for which a session rolls it back, and no others.
-use Rattle.std.proofs.Common.{◌≡◌, ℕ, ◌+◌, List, [], ◌∷◌, Option, Some, None, Result, Ok, Err, Bool, true, false, cond, refl, subst}
-use Rattle.std.specs.Prelude.{⊤, nat_le, nat_lt}
+-- Any other leaves it open.
+use Rattle.std.proofs.Common.{◌≡◌, ℕ, ◌+◌, List, [], ◌∷◌, Option, Some, None, Result, Ok, Err, Bool, true, false, not, cond, refl, subst}
+use Rattle.std.specs.Prelude.{⊤, ◌&&◌, if◌then◌else◌, nat_le, nat_lt}
 use Rattle.hb_types.specs.declared.answer.Answer.{Answer}
 use Rattle.hb_types.specs.declared.answer.Answer.TheVariants as answer
 use Rattle.hb_types.specs.declared.change.Change.{Change}
@@ -20,6 +21,8 @@ use Rattle.hb_model.specs.Needs.{most_locks}
 use Rattle.hb_model.specs.NodeSets.{has_node}
 use Rattle.hb_model.specs.Outside.{says_undone}
 use Rattle.hb_model.specs.Refusals.{first_refusal}
+use Rattle.hb_law.specs.Standing.{leaves_open}
+use Rattle.hb_law.specs.Transactions.{is_rows}
 use Rattle.hb_talk.specs.Plans.{sizes, some_or, writes, writing}
 use Rattle.hb_talk.specs.Sessions.{rolls_back}
 use Rattle.hb_talk.specs.Talk.{Talk, says, asks, going_on, and_then, Use, Planning, Follows, ends, asked, waits, gone, dies, not_yet, ready, refusal_of, ◌>>=◌, ◌>>◌, pure, refused, refuse, lock, read, scan, scan_group, write, enlisted, joining, expect, done, the_row, the_rows, met, the_tx}
@@ -30,11 +33,11 @@ abbrev pub Says : {A : Type 0} → Talk A → (A → Type 0) → Type 0
 Says (says r) Q = Q r
 Says (asks node q k) Q = (a : Answer) → Says (k a) Q
 
-says_bind : {A B : Type 0} → (t : Talk A) (f : A → Talk B) (Q : B → Type 0) → Says t (λ a. Says (f a) Q) → Says (going_on f t) Q
+pub says_bind : {A B : Type 0} → (t : Talk A) (f : A → Talk B) (Q : B → Type 0) → Says t (λ a. Says (f a) Q) → Says (going_on f t) Q
 says_bind (says a) f Q w = w
 says_bind (asks node q k) f Q w = λ a. says_bind (k a) f Q (w a)
 
-says_weaker : {A : Type 0} → (t : Talk A) (P Q : A → Type 0) → ((r : A) → P r → Q r) → Says t P → Says t Q
+pub says_weaker : {A : Type 0} → (t : Talk A) (P Q : A → Type 0) → ((r : A) → P r → Q r) → Says t P → Says t Q
 says_weaker (says a) P Q i w = i a w
 says_weaker (asks node q k) P Q i w = λ a. says_weaker (k a) P Q i (w a)
 
@@ -49,9 +52,12 @@ said _ _ _ _ (ready {t} {cs} {r} tx f) Q w = said false t cs r f Q w
 
 -- ---- plans
 
--- a refusal says that the transaction was rolled back exactly if the session rolls it back
+-- a refusal that says that the transaction was rolled back if the session rolls it back, and else leaves it open; it shows no rows
+abbrev pub is_frank : Reply → Bool
+is_frank r = (if rolls_back r then says_undone r else leaves_open r) && not (is_rows r)
+
 abbrev pub IsFrank : Reply → Type 0
-IsFrank r = says_undone r ≡ rolls_back r
+IsFrank r = is_frank r ≡ true
 
 abbrev pub Ends : {A : Type 0} → (A → Type 0) → Result A Reply × Use → Type 0
 Ends Q (Ok a, u) = Q a

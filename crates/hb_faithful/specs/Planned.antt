@@ -1,5 +1,5 @@
 -- The calls of a statement's item: those of its plan, with what is asked beside it; and when they are faithful.
-use Rattle.std.specs.Prelude.{◌≡◌, ℕ, ◌≤◌, Bool, true, false, IsTrue, List, [], ◌++◌, Result, Ok, Err}
+use Rattle.std.specs.Prelude.{◌≡◌, ℕ, ◌≤◌, Bool, true, false, ◌||◌, IsTrue, List, [], ◌++◌, Result, Ok, Err}
 use Rattle.hb_types.specs.declared.request.Request.{Request}
 use Rattle.hb_types.specs.declared.request.Request.TheVariants as request
 use Rattle.hb_types.specs.declared.trail.Call.{Call}
@@ -19,6 +19,8 @@ use Rattle.hb_talk.specs.Sessions.{rolls_back}
 use Rattle.hb_talk.specs.Talk.{Begins, Follows, Use}
 use Rattle.hb_plancalc.specs.Counted.{IsWithin, reply_in, spent_of}
 use Rattle.hb_planlaws.specs.Planned.{most_back_ends}
+use Rattle.hb_law.specs.Standing.{leaves_open}
+use Rattle.hb_law.specs.Transactions.{is_rows, is_select}
 
 -- a request that neither locks, reads, writes nor decides, as those by which a transaction begins and is rolled back
 abbrev pub is_beside : Request → Bool
@@ -33,10 +35,11 @@ is_beside _ = true
 abbrev pub AreBeside : List Call → Type 0
 AreBeside calls = Each (λ c. IsTrue (is_beside c.request)) calls
 
--- calls that may come before the plan, and are answered no rows
+-- calls that may come before the plan: they are answered no rows, and undo nothing
 pub record Opens (calls : List Call) : Type 0 where
   pub beside : AreBeside calls
   pub no_rows : given calls ≡ []
+  pub undoes_none : Each (λ c. is_undoing c.request ≡ false) calls
 
 -- calls that may come behind the plan, and roll the transaction back where the reply says so
 pub record Closes (calls : List Call) (r : Reply) : Type 0 where
@@ -104,6 +107,12 @@ is_rolled_back (Err r) = rolls_back r
 abbrev pub PlanTellsUndone : Statement → Type 0
 PlanTellsUndone st =
     (back_ends : ℕ) (u v : Use) (calls : List Call) (r : Result Reply Reply) → Follows false (plan back_ends st u) calls (r, v) → says_undone (reply_in r) ≡ is_rolled_back r
+
+-- Whatever the answers, the reply leaves the transaction open, or says that it was rolled back; and a SELECT alone shows rows.
+abbrev pub PlanReplies : Statement → Type 0
+PlanReplies st =
+    (back_ends : ℕ) (u v : Use) (calls : List Call) (r : Result Reply Reply) → Follows false (plan back_ends st u) calls (r, v)
+    → IsTrue (leaves_open (reply_in r) || says_undone (reply_in r)) × (IsTrue (is_rows (reply_in r)) → IsTrue (is_select st))
 
 -- What is asked to roll a transaction back closes an item, with the reply for which that is done.
 abbrev pub RollingBackCloses : Type 0

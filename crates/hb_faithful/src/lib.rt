@@ -4,6 +4,6 @@
 mod laws;
 
 pub use laws::{
-    given_up_are_faithful, plans_are_faithful, plans_tell_undone, rolling_back_closes,
+    given_up_are_faithful, plans_are_faithful, plans_reply, plans_tell_undone, rolling_back_closes,
     unfinished_are_right,
 };

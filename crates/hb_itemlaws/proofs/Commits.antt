@@ -68,7 +68,7 @@ pub asked_behind : (test : Request → Bool) (front calls : List Call) → HasAs
 asked_behind test [] calls h = h
 asked_behind test (c ∷ front) calls h = inr (asked_behind test front calls h)
 
-end_undone : (node : ℕ) (a : Answer) → IsTrue (says_undone (end_refusal node a))
+pub end_undone : (node : ℕ) (a : Answer) → IsTrue (says_undone (end_refusal node a))
 end_undone node answer.Down = refl
 end_undone node (answer.Fault area) = refl
 end_undone node (answer.Cycle edges) = refl

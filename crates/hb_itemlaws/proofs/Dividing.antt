@@ -33,7 +33,7 @@ use Rattle.hb_itemlaws.specs.Dividing.{Divided, Given, TransactionsAreRight, sta
 use Rattle.hb_itemlaws.proofs.Commits.{asked_behind, bare_beside, off, outside_undone, tells_decision, tells_off}
 use Rattle.hb_itemlaws.specs.Owning.{NoBegin}
 use Rattle.hb_itemlaws.proofs.Ends.{undone_ends}
-use Rattle.hb_itemlaws.proofs.Goings.{Items, all_right, only}
+use Rattle.hb_itemlaws.proofs.Goings.{Items, all_right, only, outside_fits}
 use Rattle.hb_itemlaws.proofs.Owned.{end_unbegun, going_unbegun, unbegun_followed}
 use Rattle.hb_itemlaws.proofs.Splits.{goes_on, over, split}
 
@@ -92,7 +92,7 @@ module _ (back_ends : ℕ) (owner : Owner) (w : Given) (ws : List Given) (few : 
   enter tx b = call mgr (request.Enter tx owner) b
 
   begin_opens : (tx : Tx) → Opens (begin tx ∷ [])
-  begin_opens tx = record { beside = (refl, tt); no_rows = refl }
+  begin_opens tx = record { beside = (refl, tt); no_rows = refl; undoes_none = (refl, tt) }
 
   refused : (tx : Tx) (b : Answer) (cs : List Call) (replies : List Reply)
       → Follows false (going_on (λ r. begun_with back_ends owner (statements (w ∷ ws)) (Err r)) (rolling_back (fresh tx.0) 0 (refusal_of mgr b))) cs replies
@@ -112,7 +112,8 @@ module _ (back_ends : ℕ) (owner : Owner) (w : Given) (ws : List Given) (few : 
         no_begin = (refl, unbegun_followed false t cs replies f (end_unbegun t (undone_ends (fresh tx.0) r)));
         items = subst (Items back_ends (Some tx.0) (w ∷ ws) nothing_spent (begin tx ∷ enter tx b ∷ cs)) (ap (λ z. z ∷ []) (sym rolls.0) ∙ sym done.1)
             (only back_ends (Some tx.0) w ws nothing_spent (begin tx ∷ enter tx b ∷ cs) r
-            (unentered back_ends w.1 (fresh tx.0) (begin tx ∷ []) (enter tx b ∷ cs) b (begin_opens tx) (record { beside = (refl, closes.beside); undone = λ h. inr (closes.undone h) }) (fresh_within tx.0)));
+            (unentered back_ends w.1 (fresh tx.0) (begin tx ∷ []) (enter tx b ∷ cs) b (begin_opens tx) (record { beside = (refl, closes.beside); undone = λ h. inr (closes.undone h) }) (fresh_within tx.0))
+            (λ h. outside_fits w.1 r (rejects mgr b)));
       }
 
   module _ (plain : Each (λ x. IsTrue (is_plain x.1)) (w ∷ ws)) where
@@ -123,7 +124,7 @@ module _ (back_ends : ℕ) (owner : Owner) (w : Given) (ws : List Given) (few : 
       more = enter tx answer.Done ∷ cs;
       whole = refl;
       no_begin = (refl, unbegun_followed false (going back_ends owner (statements (w ∷ ws)) (fresh tx.0)) cs replies f (going_unbegun back_ends owner (statements (w ∷ ws)) (fresh tx.0)));
-      items = all_right back_ends owner few tx.0 (w ∷ ws) (fresh tx.0) (begin tx ∷ enter tx answer.Done ∷ []) cs replies refl (record { beside = (refl, (refl, tt)); no_rows = refl })
+      items = all_right back_ends owner few tx.0 (w ∷ ws) (fresh tx.0) (begin tx ∷ enter tx answer.Done ∷ []) cs replies refl (record { beside = (refl, (refl, tt)); no_rows = refl; undoes_none = (refl, (refl, tt)) })
           (fresh_within tx.0) plain f;
     }
     by_enter tx b cs replies f = refused tx b cs replies f
@@ -139,7 +140,7 @@ pub begun_items : (back_ends : ℕ) (owner : Owner) (w : Given) (ws : List Given
 begun_items back_ends owner w ws _ replies few plain (asked {cs = cs} a i f) begun = by_begin back_ends owner w ws few plain a cs replies f begun
 
 abbrev pub divided : (back_ends : ℕ) (whose : Option ℕ) (works : List Given) (calls : List Call) (replies : List Reply) → Items back_ends whose works nothing_spent calls replies → Divided back_ends works calls replies
-divided back_ends whose works calls replies i = record { items = i.items; made_of = i.made_of; each = i.each; right = i.right }
+divided back_ends whose works calls replies i = record { items = i.items; made_of = i.made_of; each = i.each; right = i.right; bound = i.bound }
 
 pub transactions_right : TransactionsAreRight
 transactions_right back_ends owner w ws calls replies few plain follows begun =

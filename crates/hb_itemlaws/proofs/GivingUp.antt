@@ -27,14 +27,14 @@ use Rattle.hb_faithful.specs.Planned.{AreBeside, Closes, Opens, is_beside, is_pl
 use Rattle.hb_faithful.proofs.Beside.{undecided}
 use Rattle.hb_faithful.proofs.Faithfuls.{given_up_faithful}
 use Rattle.hb_faithful.proofs.Telling.{plan_tells_undone}
-use Rattle.hb_law.specs.Transactions.{AreRight, IsRightStatement}
+use Rattle.hb_law.specs.Transactions.{AreRight, IsBoundItem, IsRightStatement}
 use Rattle.hb_itemlaws.specs.Dividing.{AreItemsOf, Given}
 use Rattle.hb_itemlaws.specs.GivingUp.{Closed, ClosedAreRight, GivenUp, GivenUpAreRight, LeftOff, amid, behind, between, closing}
 use Rattle.hb_itemlaws.specs.Owning.{AreBegins, ClosedAreOwn, GivenUpAreOwn, NoBegin, StartsOwn, is_begin}
 use Rattle.hb_itemlaws.proofs.Commits.{asked_behind, bare_beside, off, outside_undone, tells_decision, tells_off}
 use Rattle.hb_itemlaws.proofs.Dividing.{divided, fresh_within}
-use Rattle.hb_itemlaws.proofs.Goings.{Items, OthersStart, StartsOf, before, is_commit, item_of, kept_item, only}
-use Rattle.hb_itemlaws.proofs.Owned.{first_followed, first_plan, own_said, statement_unbegun, unbegun_followed}
+use Rattle.hb_itemlaws.proofs.Goings.{Fits, Items, OthersStart, QuietBefore, StartsOf, before, bound_right, is_commit, item_of, kept_item, only, outside_fits}
+use Rattle.hb_itemlaws.proofs.Owned.{AreQuiet, first_followed, first_plan, own_said, statement_unbegun, unbegun_followed}
 use Rattle.hb_itemlaws.proofs.OwnItems.{are_own}
 use Rattle.hb_itemlaws.proofs.OwnPlans.{owns_plan}
 use Rattle.hb_itemlaws.proofs.Splits.{over}
@@ -96,7 +96,9 @@ pub record ClosedItems (back_ends place : ℕ) (whose : Option ℕ) (works : Lis
   pub made_of : calls_of items ++ last ≡ calls
   pub each : AreItemsOf works replies items
   pub right : AreRight back_ends spent (items ++ closing place last why ∷ [])
+  pub bound : Each IsBoundItem (items ++ closing place last why ∷ [])
   pub own : OthersStart whose (items ++ closing place last why ∷ [])
+  pub quiet : QuietBefore (items ++ closing place last why ∷ [])
 
 -- ---- whose they are, if a transaction is named
 
@@ -121,7 +123,7 @@ left_own : (back_ends tx : ℕ) (amidst : Bool) (works : List Given) (u : Use) (
 left_own back_ends tx amidst _ u asked back _ (amid {w} begins) e starts =
     let plan_own = first_plan tx (plan back_ends w.1 u) ((owns_plan back_ends w.1).holds tx u e) in
     starts_before tx asked back (starts_first tx asked begins.0 (first_followed tx (plan back_ends w.1 u) (asked ++ begins.0) begins.1 begins.2 plan_own)) starts
-left_own back_ends tx amidst works u _ back _ between e starts = starts
+left_own back_ends tx amidst _ u _ back _ between e starts = starts
 left_own back_ends tx amidst _ u _ back _ (behind {w} {ws} {v} {asked = xs} {calls = cs} {o} {replies = rs} planned follows stays left) e starts =
     let own = (owns_plan back_ends w.1).holds tx u e in
     subst (StartsOwn tx) (sym (append_assoc xs cs back))
@@ -137,7 +139,7 @@ left_starts back_ends (Some tx) amidst works u asked back replies left e starts 
 pub left_unbegun : (back_ends : ℕ) (amidst : Bool) (works : List Given) (u : Use) (asked : List Call) (replies : List Reply) → LeftOff back_ends amidst works u asked replies → NoBegin asked
 left_unbegun back_ends amidst _ u asked _ (amid {w} begins) =
     Each-front (λ (c : Call). is_begin c.request ≡ false) asked begins.0 (unbegun_followed false (plan back_ends w.1 u) (asked ++ begins.0) begins.1 begins.2 (statement_unbegun back_ends w.1 u))
-left_unbegun back_ends amidst works u _ _ between = tt
+left_unbegun back_ends amidst _ u _ _ between = tt
 left_unbegun back_ends amidst _ u _ _ (behind {w} {ws} {v} {asked = xs} {calls = cs} {o} {replies = rs} planned follows stays left) =
     Each-append (λ (c : Call). is_begin c.request ≡ false) xs cs (unbegun_followed false (plan back_ends w.1 u) xs (o, v) follows (statement_unbegun back_ends w.1 u)) (left_unbegun back_ends amidst ws v cs rs left)
 
@@ -153,19 +155,16 @@ module _ (back_ends : ℕ) (owner : Owner) (few : back_ends ≤ most_back_ends) 
       → Items back_ends whose works (spent_of u) (front ++ (asked ++ back)) (replies ++ why ∷ [])
   amid_items _ u front asked _ (amid {w} {ws} begins) outside e starts opens within plain =
       only back_ends whose w ws (spent_of u) (front ++ (asked ++ back)) why (amid_right back_ends w.1 u front asked back why outside opens closes within begins)
+      (λ h. outside_fits w.1 why outside)
   amid_items _ u front _ _ (behind {w} {ws} {v} {asked = xs} {calls = cs} {o} {replies = rs} planned follows stays left) outside e starts opens within plain =
       let open_still = plan_tells_undone w.1 planned back_ends u v xs o follows ∙ stays in
       let of_tx = still_of back_ends whose w.1 u v xs o e follows in
       let starting : StartsOf whose back = starts (λ x. absurd (cc x)) in
-      let item = kept_item back_ends owner few u.tx w ws plain.0 (uncommitted w.1 planned) u v front xs o opens within follows open_still in
-      let rest = amid_items ws v [] cs rs left outside of_tx (λ x. starting) (record { beside = tt; no_rows = refl }) item.within plain.1 in
+      let item = kept_item back_ends owner few u.tx w ws plain.0 (uncommitted w.1 planned) u v front xs o planned opens within follows open_still in
+      let rest = amid_items ws v [] cs rs left outside of_tx (λ x. starting) (record { beside = tt; no_rows = refl; undoes_none = tt }) item.within plain.1 in
       subst (λ zs. Items back_ends whose (w ∷ ws) (spent_of u) zs (reply_in o ∷ (rs ++ why ∷ []))) (regroup front xs cs back)
-      (before back_ends whose w ws (spent_of u) (front ++ xs) (cs ++ back) (reply_in o) (rs ++ why ∷ []) item.right (left_starts back_ends whose true ws v cs back rs left of_tx starting)
+      (before back_ends whose w ws (spent_of u) (front ++ xs) (cs ++ back) (reply_in o) (rs ++ why ∷ []) item.right item.fits item.quiet (left_starts back_ends whose true ws v cs back rs left of_tx starting)
       (subst (λ s. Items back_ends whose ws s (cs ++ back) (rs ++ why ∷ [])) item.spent rest))
-
-  no_items : (works : List Given) → AreItemsOf works [] []
-  no_items [] = tt
-  no_items (w ∷ ws) = tt
 
   module _ (place : ℕ) where
     starts_part : (xs ys : List Call) → StartsOf whose (xs ++ ys) → StartsOf whose xs
@@ -181,21 +180,23 @@ module _ (back_ends : ℕ) (owner : Owner) (few : back_ends ≤ most_back_ends) 
     closing_starts [] last starts own = (starts, tt)
     closing_starts (i ∷ is) last starts own = (starts_part i.calls (calls_of is ++ last) (subst (StartsOf whose) (append_assoc i.calls (calls_of is) last) starts), own)
 
-    cons : (w : Given) (ws : List Given) (u v : Use) (own more calls : List Call) (r : Reply) (rs : List Reply) → IsRightStatement back_ends (spent_of u) w.1 own (Some r)
+    cons : (w : Given) (ws : List Given) (u v : Use) (own more calls : List Call) (r : Reply) (rs : List Reply) → IsRightStatement back_ends (spent_of u) w.1 own (Some r) → Fits w.1 r → AreQuiet own
         → spent_of v ≡ spending (spent_of u) own → own ++ more ≡ calls → StartsOf whose more → ClosedItems back_ends place whose ws (spent_of v) more rs why
         → ClosedItems back_ends place whose (w ∷ ws) (spent_of u) calls (r ∷ rs) why
-    cons w ws u v own more calls r rs right spent whole starts rest = record {
+    cons w ws u v own more calls r rs right fits quiet spent whole starts rest = record {
       items = item_of w own r ∷ rest.items;
       last = rest.last;
       made_of = append_assoc own (calls_of rest.items) rest.last ∙ ap (λ zs. own ++ zs) rest.made_of ∙ whole;
       each = ((refl, refl, refl), rest.each);
       right = (right, subst (λ s. AreRight back_ends s (rest.items ++ closing place rest.last why ∷ [])) spent rest.right);
+      bound = (bound_right back_ends (spent_of u) w.1 own r right (λ h. fits), rest.bound);
+      quiet = ((λ n. quiet), rest.quiet);
       own = closing_starts rest.items rest.last (subst (StartsOf whose) (sym rest.made_of) starts) rest.own;
     }
 
     closed_items : (works : List Given) (u : Use) (front asked : List Call) (replies : List Reply) → LeftOff back_ends false works u asked replies → IsTrue (is_outside why) → IsOf whose u → StartsBehind replies → Opens front → IsWithin u
         → Each (λ w. IsTrue (is_plain w.1)) works → ClosedItems back_ends place whose works (spent_of u) (front ++ (asked ++ back)) replies why
-    closed_items works u front _ _ between outside e starts opens within plain =
+    closed_items _ u front _ _ between outside e starts opens within plain =
         let beside : AreBeside (front ++ back) = both_beside front back opens.beside closes.beside in
         let says : IsTrue (says_undone why) = outside_undone why outside in
         let undone : HasAsked is_undoing (front ++ back) = asked_behind is_undoing front back (closes.undone says) in
@@ -203,17 +204,19 @@ module _ (back_ends : ℕ) (owner : Owner) (few : back_ends ≤ most_back_ends) 
           items = [];
           last = front ++ back;
           made_of = refl;
-          each = no_items works;
+          each = tt;
           right = ((undecided (front ++ back) beside, bare_beside (front ++ back) beside, (inr (says, undone), tt)), tt);
+          bound = ((undecided (front ++ back) beside, bare_beside (front ++ back) beside, (inr (says, undone), tt)), tt);
           own = tt;
+          quiet = ((λ n. absurd (n refl)), tt);
         }
     closed_items _ u front _ _ (behind {w} {ws} {v} {asked = xs} {calls = cs} {o} {replies = rs} planned follows stays left) outside e starts opens within plain =
         let open_still = plan_tells_undone w.1 planned back_ends u v xs o follows ∙ stays in
         let of_tx = still_of back_ends whose w.1 u v xs o e follows in
         let starting : StartsOf whose back = starts (λ x. absurd (cc x)) in
-        let item = kept_item back_ends owner few u.tx w ws plain.0 (uncommitted w.1 planned) u v front xs o opens within follows open_still in
-        let rest = closed_items ws v [] cs rs left outside of_tx (λ x. starting) (record { beside = tt; no_rows = refl }) item.within plain.1 in
-        cons w ws u v (front ++ xs) (cs ++ back) (front ++ ((xs ++ cs) ++ back)) (reply_in o) rs item.right item.spent (regroup front xs cs back)
+        let item = kept_item back_ends owner few u.tx w ws plain.0 (uncommitted w.1 planned) u v front xs o planned opens within follows open_still in
+        let rest = closed_items ws v [] cs rs left outside of_tx (λ x. starting) (record { beside = tt; no_rows = refl; undoes_none = tt }) item.within plain.1 in
+        cons w ws u v (front ++ xs) (cs ++ back) (front ++ ((xs ++ cs) ++ back)) (reply_in o) rs item.right item.fits item.quiet item.spent (regroup front xs cs back)
         (left_starts back_ends whose false ws v cs back rs left of_tx starting) rest
 
 -- ---- the laws
@@ -241,7 +244,7 @@ given_up_right back_ends works calls replies why few plain g =
 
 abbrev closed : (back_ends place : ℕ) (whose : Option ℕ) (works : List Given) (calls : List Call) (replies : List Reply) (why : Reply) → ClosedItems back_ends place whose works nothing_spent calls replies why
     → Closed back_ends place works calls replies why
-closed back_ends place whose works calls replies why i = record { items = i.items; last = i.last; made_of = i.made_of; each = i.each; right = i.right }
+closed back_ends place whose works calls replies why i = record { items = i.items; last = i.last; made_of = i.made_of; each = i.each; right = i.right; bound = i.bound }
 
 pub closed_right : ClosedAreRight
 closed_right back_ends place works calls replies why few plain g =
@@ -258,12 +261,12 @@ pub given_up_own : GivenUpAreOwn
 given_up_own back_ends owner works calls replies why few plain g sys (more, whole, quiet) starts =
     let i = amid_whole back_ends works calls replies why few plain (Some g.tx) g refl starts in
     let c : Call = call fes1 (request.Begin owner) (answer.Begun (record { 0 = g.tx })) in
-    (divided back_ends (Some g.tx) works calls (replies ++ why ∷ []) i, are_own g.tx i.items c more refl refl i.own (i.made_of ∙ whole) quiet (subst AreBegins whole sys).1)
+    (divided back_ends (Some g.tx) works calls (replies ++ why ∷ []) i, are_own g.tx i.items c more refl refl i.own i.quiet (i.made_of ∙ whole) quiet (subst AreBegins whole sys).1)
 
 pub closed_own : ClosedAreOwn
 closed_own back_ends place owner works calls replies why few plain g sys (more, whole, quiet) starts =
     let i = closed_whole back_ends works calls replies why few plain (Some g.tx) place g refl starts in
     let c : Call = call fes1 (request.Begin owner) (answer.Begun (record { 0 = g.tx })) in (
       closed back_ends place (Some g.tx) works calls replies why i,
-      are_own g.tx (i.items ++ closing place i.last why ∷ []) c more refl refl i.own (calls_behind i.items place i.last why ∙ i.made_of ∙ whole) quiet (subst AreBegins whole sys).1,
+      are_own g.tx (i.items ++ closing place i.last why ∷ []) c more refl refl i.own i.quiet (calls_behind i.items place i.last why ∙ i.made_of ∙ whole) quiet (subst AreBegins whole sys).1,
     )

@@ -9,4 +9,6 @@ pub mod Dividing
 pub mod OwnItems
 pub mod GivingUp
 pub mod Kept
+pub mod Naming
+pub mod Showing
 mod Idle

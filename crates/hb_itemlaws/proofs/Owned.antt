@@ -1,13 +1,15 @@
 -- The first request of a transaction's talk is its own, and none begins another one.
-use Rattle.std.proofs.Common.{◌≡◌, ℕ, List, [], ◌∷◌, Some, None, Ok, Err, Result, Bool, true, false, refl, subst, sym, ap}
-use Rattle.std.specs.Prelude.{⊤, IsTrue, if◌then◌else◌}
-use Rattle.hb_faithful.specs.Planned.{is_planned}
+use Rattle.std.proofs.Common.{◌≡◌, inl, inr, ℕ, List, [], ◌∷◌, Some, None, Ok, Err, Result, Bool, true, false, refl, subst, sym, ap, ◌∙◌}
+use Rattle.std.specs.Prelude.{⊤, ◌||◌, IsTrue, if◌then◌else◌}
+use Rattle.hb_faithful.specs.Planned.{AreBeside, is_beside, is_planned}
 use Rattle.std.proofs.lemmas.Bool.{false≢true}
 use Rattle.hb_types.specs.declared.answer.Answer.{Answer}
 use Rattle.hb_types.specs.declared.names.Owner.{Owner}
 use Rattle.hb_types.specs.declared.request.Request.{Request}
 use Rattle.hb_types.specs.declared.request.Request.TheVariants as request
 use Rattle.hb_types.specs.declared.trail.Call.{Call}
+use Rattle.hb_types.specs.Lists.{Each}
+use Rattle.hb_model.specs.Answers.{HasAsked, is_decide, is_undoing}
 use Rattle.hb_model.specs.declared.reply.Reply.{Reply}
 use Rattle.hb_model.specs.declared.reply.Reply.TheVariants as reply
 use Rattle.hb_model.specs.declared.statement.Statement.{Statement}
@@ -21,7 +23,7 @@ use Rattle.hb_law.specs.Transactions.{tx_asked}
 use Rattle.hb_itemlaws.specs.Owning.{NoBegin, StartsOwn, is_begin}
 use Rattle.hb_itemlaws.proofs.Ends.{AllEnd, committed_ends, is_of_end, undone_ends}
 use Rattle.hb_itemlaws.proofs.OwnPlans.{owns_plan}
-use Rattle.hb_itemlaws.proofs.Owning.{Own}
+use Rattle.hb_itemlaws.proofs.Owning.{Own, settles}
 
 -- ---- the first request
 
@@ -78,7 +80,7 @@ end_unbegun (asks node q k) w = (end_begins_none q w.0, λ a. end_unbegun (k a) 
 
 plan_unbegun : (tx : ℕ) (t : Talk (Result Reply Reply × Use)) → Own tx t → Unbegun t
 plan_unbegun tx (says r) w = tt
-plan_unbegun tx (asks node q k) w = (own_begins_none tx q w.0, λ a. plan_unbegun tx (k a) (w.1 a))
+plan_unbegun tx (asks node q k) w = (own_begins_none tx q w.0, λ a. plan_unbegun tx (k a) (w.2 a))
 
 unbegun_bound : {A B : Type 0} (t : Talk A) (f : A → Talk B) → Unbegun t → ((r : A) → Unbegun (f r)) → Unbegun (going_on f t)
 unbegun_bound (says r) f w g = g r
@@ -87,12 +89,48 @@ unbegun_bound (asks node q k) f w g = (w.0, λ a. unbegun_bound (k a) f (w.1 a) 
 -- the use in the end is of the transaction
 pub own_said : (tx : ℕ) (b : Bool) (t : Talk (Result Reply Reply × Use)) (cs : List Call) (r : Result Reply Reply × Use) → Follows b t cs r → Own tx t → r.1.tx ≡ tx
 own_said tx _ _ _ _ ends w = w
-own_said tx _ _ _ _ (asked {k} {cs} {r} a i f) w = own_said tx false (k a) cs r f (w.1 a)
+own_said tx _ _ _ _ (asked {k} {cs} {r} a i f) w = own_said tx false (k a) cs r f (w.2 a)
 own_said tx _ _ _ _ (waits {node} {k} {cs} {r} t p path m wanted holders edges f) w = own_said tx true (asks node (request.Lock t p m) k) cs r f w
 own_said tx _ _ _ _ (gone {node} {k} {cs} {r} t p path m wanted holders f) w = own_said tx false (asks node (request.Lock t p m) k) cs r f w
-own_said tx _ _ _ _ (dies {k} {cs} {r} t p path m wanted holders a e f) w = own_said tx false (k a) cs r f (w.1 a)
+own_said tx _ _ _ _ (dies {k} {cs} {r} t p path m wanted holders a e f) w = own_said tx false (k a) cs r f (w.2 a)
 own_said tx _ _ _ _ (not_yet {t} {cs} {r} x target f) w = own_said tx true t cs r f w
 own_said tx _ _ _ _ (ready {t} {cs} {r} x f) w = own_said tx false t cs r f w
+
+-- ---- calls that settle nothing
+
+-- nothing is decided or undone
+abbrev pub AreQuiet : List Call → Type 0
+AreQuiet calls = Each (λ c. settles c.request ≡ false) calls
+
+pub quiet_followed : (tx : ℕ) (b : Bool) (t : Talk (Result Reply Reply × Use)) (cs : List Call) (r : Result Reply Reply × Use) → Follows b t cs r → Own tx t → AreQuiet cs
+quiet_followed tx _ _ _ _ ends w = tt
+quiet_followed tx _ _ _ _ (asked {k} {cs} {r} a i f) w = (w.1, quiet_followed tx false (k a) cs r f (w.2 a))
+quiet_followed tx _ _ _ _ (waits {node} {k} {cs} {r} t p path m wanted holders edges f) w = (refl, (refl, quiet_followed tx true (asks node (request.Lock t p m) k) cs r f w))
+quiet_followed tx _ _ _ _ (gone {node} {k} {cs} {r} t p path m wanted holders f) w = (refl, (refl, quiet_followed tx false (asks node (request.Lock t p m) k) cs r f w))
+quiet_followed tx _ _ _ _ (dies {k} {cs} {r} t p path m wanted holders a e f) w = (refl, (refl, quiet_followed tx false (k a) cs r f (w.2 a)))
+quiet_followed tx _ _ _ _ (not_yet {t} {cs} {r} x target f) w = (refl, quiet_followed tx true t cs r f w)
+quiet_followed tx _ _ _ _ (ready {t} {cs} {r} x f) w = (refl, quiet_followed tx false t cs r f w)
+
+neither : (a b : Bool) → a || b ≡ false → (a ≡ false) × (b ≡ false)
+neither false b e = (refl, e)
+neither true b e = absurd (false≢true (sym e))
+
+pub none_decided : (calls : List Call) → AreQuiet calls → ¬ (HasAsked is_decide calls)
+none_decided [] q h = h
+none_decided (c ∷ cs) q (inl h) = false≢true (sym (neither (is_decide c.request) (is_undoing c.request) q.0).0 ∙ h)
+none_decided (c ∷ cs) q (inr h) = none_decided cs q.1 h
+
+pub none_undone : (calls : List Call) → AreQuiet calls → ¬ (HasAsked is_undoing calls)
+none_undone [] q h = h
+none_undone (c ∷ cs) q (inl h) = false≢true (sym (neither (is_decide c.request) (is_undoing c.request) q.0).1 ∙ h)
+none_undone (c ∷ cs) q (inr h) = none_undone cs q.1 h
+
+beside_decides_none : (q : Request) → IsTrue (is_beside q) → is_decide q ≡ false
+beside_decides_none q = elim q as (λ x. IsTrue (is_beside x) → is_decide x ≡ false) [ request.Decide tx votes ↦ λ b. absurd (false≢true b) | x ↦ λ b. refl ]
+
+pub opens_quiet : (calls : List Call) → AreBeside calls → Each (λ c. is_undoing c.request ≡ false) calls → AreQuiet calls
+opens_quiet [] b u = tt
+opens_quiet (c ∷ cs) b u = (ap (λ x. x || is_undoing c.request) (beside_decides_none c.request b.0) ∙ u.0, opens_quiet cs b.1 u.1)
 
 pub statement_unbegun : (back_ends : ℕ) (st : Statement) (u : Use) → Unbegun (plan back_ends st u)
 statement_unbegun back_ends st u = plan_unbegun u.tx (plan back_ends st u) ((owns_plan back_ends st).holds u.tx u refl)
@@ -100,22 +138,22 @@ statement_unbegun back_ends st u = plan_unbegun u.tx (plan back_ends st u) ((own
 -- ---- a transaction that is open
 
 module _ (back_ends : ℕ) (owner : Owner) where
-  going_planned : (st : Statement) (sts : List Statement) (u : Use) → IsTrue (is_planned st)
+  pub going_planned : (st : Statement) (sts : List Statement) (u : Use) → IsTrue (is_planned st)
       → going back_ends owner (st ∷ sts) u ≡ going_on (λ p. after (going back_ends owner sts) p.0 p.1) (plan back_ends st u)
   unfolding going
   going_planned statement.Commit sts u p = absurd (false≢true p)
   going_planned statement.Rollback sts u p = absurd (false≢true p)
   going_planned _ sts u p = refl
 
-  going_none : (u : Use) → going back_ends owner [] u ≡ says []
+  pub going_none : (u : Use) → going back_ends owner [] u ≡ says []
   unfolding going
   going_none u = refl
 
-  going_commit : (sts : List Statement) (u : Use) → going back_ends owner (statement.Commit ∷ sts) u ≡ going_on (λ r. says (r ∷ [])) (committing owner u reply.Committed)
+  pub going_commit : (sts : List Statement) (u : Use) → going back_ends owner (statement.Commit ∷ sts) u ≡ going_on (λ r. says (r ∷ [])) (committing owner u reply.Committed)
   unfolding going
   going_commit sts u = refl
 
-  going_rollback : (sts : List Statement) (u : Use) → going back_ends owner (statement.Rollback ∷ sts) u ≡ going_on (λ r. says (r ∷ [])) (rolling_back u 0 reply.RolledBack)
+  pub going_rollback : (sts : List Statement) (u : Use) → going back_ends owner (statement.Rollback ∷ sts) u ≡ going_on (λ r. says (r ∷ [])) (rolling_back u 0 reply.RolledBack)
   unfolding going
   going_rollback sts u = refl
 

@@ -10,7 +10,7 @@ use Rattle.hb_model.specs.Plain.{is_plain}
 use Rattle.hb_talk.specs.Sessions.{transaction}
 use Rattle.hb_talk.specs.Talk.{Follows}
 use Rattle.hb_planlaws.specs.Planned.{most_back_ends}
-use Rattle.hb_law.specs.Transactions.{AreOfAKind, AreRight, begins_of, own_items}
+use Rattle.hb_law.specs.Transactions.{AreRight, IsBoundItem, begins_of}
 
 -- a statement, and its place in the script
 abbrev pub Given : Type 0
@@ -31,6 +31,7 @@ pub record Divided (back_ends : ℕ) (works : List Given) (calls : List Call) (r
   pub made_of : calls_of items ≡ calls
   pub each : AreItemsOf works replies items
   pub right : AreRight back_ends nothing_spent items
+  pub bound : Each IsBoundItem items
 
 -- Whatever the answers are, a transaction that was begun is made of right items.
 abbrev pub TransactionsAreRight : Type 0
@@ -38,13 +39,3 @@ TransactionsAreRight =
     (back_ends : ℕ) (owner : Owner) (work : Given) (works : List Given) (calls : List Call) (replies : List Reply) → back_ends ≤ most_back_ends
     → Each (λ w. IsTrue (is_plain w.1)) (work ∷ works) → Follows false (transaction back_ends owner (statements (work ∷ works))) calls replies
     → begins_of calls ≢ [] → Divided back_ends (work ∷ works) calls replies
-
--- a transaction's items are right, and are statements, each with its reply
-pub record AreRightItems (back_ends : ℕ) (items : List Item) : Type 0 where
-  pub right : AreRight back_ends nothing_spent items
-  pub kinds : AreOfAKind items
-
--- Of a division, the items that are not idle are right.
-abbrev pub TxnsAreRight : Type 0
-TxnsAreRight =
-    (back_ends : ℕ) (works : List Given) (calls : List Call) (replies : List Reply) → (d : Divided back_ends works calls replies) → AreRightItems back_ends (own_items d.items)

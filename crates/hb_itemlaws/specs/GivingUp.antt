@@ -12,14 +12,14 @@ use Rattle.hb_talk.specs.Talk.{Begins, Follows, Use}
 use Rattle.hb_plancalc.specs.Counted.{reply_in}
 use Rattle.hb_planlaws.specs.Planned.{most_back_ends}
 use Rattle.hb_faithful.specs.Planned.{Closes, Opens, is_planned, is_rolled_back}
-use Rattle.hb_law.specs.Transactions.{AreRight, own_items}
-use Rattle.hb_itemlaws.specs.Dividing.{AreItemsOf, AreRightItems, Divided, Given}
+use Rattle.hb_law.specs.Transactions.{AreRight, IsBoundItem}
+use Rattle.hb_itemlaws.specs.Dividing.{AreItemsOf, Divided, Given}
 
 -- What was asked and said from a use on, up to where the transaction is given up: amid the plan of a statement, or between two.
 -- Each statement before had its reply, and left the transaction open.
 pub data LeftOff (back_ends : ℕ) : Bool → List Given → Use → List Call → List Reply → Type 0 where
   amid : {w : Given} {ws : List Given} {u : Use} {calls : List Call} → Begins (plan back_ends w.1 u) calls → LeftOff back_ends true (w ∷ ws) u calls []
-  between : {ws : List Given} {u : Use} → LeftOff back_ends false ws u [] []
+  between : {u : Use} → LeftOff back_ends false [] u [] []
   behind : {amidst : Bool} {w : Given} {ws : List Given} {u v : Use} {asked calls : List Call} {o : Result Reply Reply} {replies : List Reply} → IsTrue (is_planned w.1)
       → Follows false (plan back_ends w.1 u) asked (o, v) → is_rolled_back o ≡ false → LeftOff back_ends amidst ws v calls replies
       → LeftOff back_ends amidst (w ∷ ws) u (asked ++ calls) (reply_in o ∷ replies)
@@ -57,15 +57,10 @@ pub record Closed (back_ends place : ℕ) (works : List Given) (calls : List Cal
   pub made_of : calls_of items ++ last ≡ calls
   pub each : AreItemsOf works replies items
   pub right : AreRight back_ends nothing_spent (items ++ closing place last why ∷ [])
+  pub bound : Each IsBoundItem (items ++ closing place last why ∷ [])
 
 -- wherever the rolling back is told to stand
 abbrev pub ClosedAreRight : Type 0
 ClosedAreRight =
     (back_ends place : ℕ) (works : List Given) (calls : List Call) (replies : List Reply) (why : Reply) → back_ends ≤ most_back_ends → Each (λ w. IsTrue (is_plain w.1)) works
     → GivenUp back_ends false works calls replies why → Closed back_ends place works calls replies why
-
--- of such items, too, those that are not idle are right
-abbrev pub ClosedTxnsAreRight : Type 0
-ClosedTxnsAreRight =
-    (back_ends place : ℕ) (works : List Given) (calls : List Call) (replies : List Reply) (why : Reply) → (c : Closed back_ends place works calls replies why)
-    → AreRightItems back_ends (own_items (c.items ++ closing place c.last why ∷ []))

@@ -1,3 +1,4 @@
 pub mod Dividing
 pub mod GivingUp
 pub mod Owning
+pub mod Txns

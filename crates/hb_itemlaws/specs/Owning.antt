@@ -1,11 +1,11 @@
 -- Which of a transaction's items begins it, and which ask something of it.
-use Rattle.std.specs.Prelude.{◌≡◌, ◌≢◌, ℕ, ◌≤◌, Bool, true, false, ◌⊎◌, IsTrue, List, [], ◌∷◌, ◌++◌, Some, None, ⊤}
+use Rattle.std.specs.Prelude.{◌≡◌, ◌≢◌, ℕ, ◌≤◌, Bool, true, false, IsTrue, List, [], ◌∷◌, ◌++◌, Some, None, ⊤}
 use Rattle.hb_types.specs.declared.answer.Answer.TheVariants as answer
 use Rattle.hb_types.specs.declared.names.Owner.{Owner}
 use Rattle.hb_types.specs.declared.request.Request.{Request}
 use Rattle.hb_types.specs.declared.request.Request.TheVariants as request
 use Rattle.hb_types.specs.declared.trail.Call.{Call}
-use Rattle.hb_types.specs.Lists.{Each, Has}
+use Rattle.hb_types.specs.Lists.{Each}
 use Rattle.hb_model.specs.declared.reply.Reply.{Reply}
 use Rattle.hb_model.specs.Answers.{call}
 use Rattle.hb_model.specs.Items.{Item}
@@ -16,7 +16,7 @@ use Rattle.hb_talk.specs.Talk.{Follows}
 use Rattle.hb_planlaws.specs.Planned.{most_back_ends}
 use Rattle.hb_law.specs.Callers.{is_begun}
 pub use Rattle.hb_runs.specs.Kinds.{is_begin}
-use Rattle.hb_law.specs.Transactions.{BeginsIt, begins_of, own_items, tx_asked}
+use Rattle.hb_law.specs.Transactions.{AllAsk, BeginsIt, begins_of, own_items, tx_asked}
 use Rattle.hb_itemlaws.specs.Dividing.{Divided, Given, statements}
 use Rattle.hb_itemlaws.specs.GivingUp.{Closed, GivenUp, closing}
 
@@ -32,17 +32,16 @@ abbrev pub StartsOwn : ℕ → List Call → Type 0
 StartsOwn tx [] = ⊤
 StartsOwn tx (c ∷ cs) = tx_asked c.request ≡ Some tx
 
--- each of these items begins nothing, and asks something of this transaction or nothing at all
-abbrev pub AskOwn : ℕ → List Item → Type 0
-AskOwn tx items = Each (λ i. (begins_of i.calls ≡ []) × (Has (λ c. tx_asked c.request ≡ Some tx) i.calls ⊎ (i.calls ≡ []))) items
-
--- Of the items that are not idle the first begins this transaction; each other asks something of it or nothing at all, and begins none.
+-- The first item begins this transaction, and is the first of those that are not idle; each other of these begins none, and asks
+-- something of it, or nothing at all while it is open.
 pub record AreOwn (tx : ℕ) (items : List Item) : Type 0 where
   pub first : Item
+  pub more : List Item
+  pub parts : items ≡ first ∷ more
   pub others : List Item
   pub own : own_items items ≡ first ∷ others
   pub begins : BeginsIt tx first.calls
-  pub asked : AskOwn tx others
+  pub asked : AllAsk tx first.calls others
 
 -- a division of a transaction's calls whose items are its own
 abbrev pub DividedOwn : ℕ → List Given → List Call → List Reply → Type 0

@@ -1,8 +1,9 @@
 -- Worlds that the premises of the law shut out, each with the clause that does it.
-use Rattle.std.proofs.Common.{◌≡◌, ◌⊎◌, ℕ, ℤ, false, List, [], ◌∷◌, ◌++◌, Option, Some, None, refl, subst, sym, ap, arith, inl, inr}
+use Rattle.std.proofs.Common.{◌≡◌, ◌⊎◌, ℕ, zero, suc, ℤ, false, List, [], ◌∷◌, ◌++◌, Option, Some, None, refl, subst, sym, ap, arith, inl, inr}
 use Rattle.std.specs.Prelude.{IsTrue, Ok, codes, not, pos, ◌||◌, ⊤}
 use Rattle.std.proofs.lemmas.Bool.{false≢true}
 use Rattle.hb_types.specs.declared.answer.Answer.TheVariants as answer
+use Rattle.hb_types.specs.declared.change.Stored.{Stored}
 use Rattle.hb_types.specs.declared.names.Number.{Number}
 use Rattle.hb_types.specs.declared.names.Owner.{Owner}
 use Rattle.hb_types.specs.declared.names.Tx.{Tx}
@@ -12,6 +13,7 @@ use Rattle.hb_types.specs.declared.trail.Call.{Call}
 use Rattle.hb_types.specs.declared.trail.TrailEntry.{TrailEntry}
 use Rattle.hb_types.specs.declared.value.Value.TheVariants.{Int}
 use Rattle.hb_types.specs.Lists.{Each}
+use Rattle.hb_types.specs.Rows.{row_bytes}
 use Rattle.hb_types.proofs.SamePlace.{int_eq-refl}
 use Rattle.hb_model.specs.declared.line.Line.{Line}
 use Rattle.hb_model.specs.declared.line.Work.TheVariants as work
@@ -22,6 +24,8 @@ use Rattle.hb_model.specs.declared.statement.Statement.TheVariants as statement
 use Rattle.hb_model.specs.Answers.{call}
 use Rattle.hb_model.specs.Families.{Family}
 use Rattle.hb_model.specs.Items.{Item, sql}
+use Rattle.hb_model.specs.Sources.{IsSelection, IsShownOf}
+use Rattle.hb_model.specs.Spots.{place_in}
 use Rattle.hb_disks.specs.Disks.{written}
 use Rattle.hb_disks.specs.Images.{Images}
 use Rattle.hb_disks.specs.Logless.{empty_images, empty_logs}
@@ -225,3 +229,21 @@ unkept =
 
 pub shown_and_not_kept : (w : World) (cut : List Event) (n : ℕ) (images : Images) → IsWorldAt written w unkept cut n images → ⊥
 shown_and_not_kept w cut n images now = number_of_nothing now.txns
+
+-- ---- a SELECT that shows a number out of range, whose bytes are those of the row that it was answered
+
+abbrev five : Stored
+five = record { place = place_in 257 1 (pos 1); row = row_bytes (Int (pos 5) ∷ []) }
+
+same_bytes : row_bytes (Int (pos 4294967301) ∷ []) ≡ five.row
+same_bytes = refl
+
+not_selected : (positions : List ℕ) → IsSelection (Int (pos 5) ∷ []) positions (Int (pos 4294967301) ∷ []) → ⊥
+not_selected [] e = absurd cc
+not_selected (zero ∷ ps) e = let same : ◌≡◌ {A = ℕ} 5 4294967301 = cc in omega (arith, same)
+not_selected (suc p ∷ ps) e = absurd cc
+
+pub shown_by_its_bytes : IsShownOf (five ∷ []) (Int (pos 4294967301) ∷ []) → ⊥
+shown_by_its_bytes (inl (users, (row, positions, told, selection))) =
+    let same : Int (pos 5) ∷ [] ≡ row = cc in not_selected positions (subst (λ r. IsSelection r positions (Int (pos 4294967301) ∷ [])) (sym same) selection)
+shown_by_its_bytes (inr none) = none

@@ -88,6 +88,7 @@ pub opens_more : (c : Call) (front : List Call) → Opens (c ∷ []) → Opens f
 opens_more c front one more = record {
   beside = (one.beside.0, more.beside);
   no_rows = ap (λ xs. xs ++ given front) (sym (append-nil (rows_answered c.request c.answer)) ∙ one.no_rows) ∙ more.no_rows;
+  undoes_none = (one.undoes_none.0, more.undoes_none);
 }
 
 -- with the rolling back
@@ -103,7 +104,7 @@ whole old amidst works calls asked rolled replies why b closes outside =
       back = l.late ++ rolled;
       parts = sym (append_assoc calls asked rolled) ∙ ap (λ zs. zs ++ rolled) (b.whole ∙ ap (λ zs. begin ∷ zs) l.parts)
           ∙ ap (λ zs. begin ∷ zs) (append_assoc l.front (l.asked ++ l.late) rolled ∙ ap (λ zs. l.front ++ zs) (append_assoc l.asked l.late rolled));
-      opens = opens_more begin l.front (record { beside = (refl, tt); no_rows = refl }) l.opens;
+      opens = opens_more begin l.front (record { beside = (refl, tt); no_rows = refl; undoes_none = (refl, tt) }) l.opens;
       left = l.left;
       closes = record {
         beside = Each-append (λ (c : Call). IsTrue (is_beside c.request)) l.late rolled l.beside closes.beside;

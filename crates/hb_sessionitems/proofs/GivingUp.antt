@@ -99,7 +99,7 @@ module _ (old last : Sitting) where
       asked = [];
       late = call mgr (request.Enter tx (next_owner old)) a ∷ [];
       parts = refl;
-      opens = record { beside = tt; no_rows = refl };
+      opens = record { beside = tt; no_rows = refl; undoes_none = tt };
       beside = (refl, tt);
       front_begins = tt;
       late_begins = (refl, tt);

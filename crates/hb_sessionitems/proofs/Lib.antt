@@ -9,3 +9,4 @@ pub mod GivingUp
 pub mod Ending
 pub mod Obeying
 pub mod Owning
+pub mod Txns

@@ -114,7 +114,7 @@ module _ (old m n : Sitting) (amidst : Bool) (shows : Progress) (leaves : Leaves
             asked = calls;
             late = [];
             parts = ap (λ z. call mgr (request.Enter tx (next_owner old)) answer.Done ∷ z) (sym (append-nil calls));
-            opens = record { beside = (refl, tt); no_rows = refl };
+            opens = record { beside = (refl, tt); no_rows = refl; undoes_none = (refl, tt) };
             beside = tt;
             front_begins = (refl, tt);
             late_begins = tt;

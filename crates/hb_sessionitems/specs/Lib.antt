@@ -1,3 +1,4 @@
 pub mod Sitting
 pub mod GivingUp
 pub mod Owning
+pub mod Txns

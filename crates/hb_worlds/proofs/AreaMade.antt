@@ -533,7 +533,7 @@ within : IsWithin (fresh 1)
 within = record { locks = omega arith; bytes = omega arith }
 
 opens_it : Opens (begins ∷ enters ∷ [])
-opens_it = record { beside = (refl, (refl, tt)); no_rows = refl }
+opens_it = record { beside = (refl, (refl, tt)); no_rows = refl; undoes_none = (refl, (refl, tt)) }
 
 follows_plan : FollowsPlan 1 create (fresh 1) made_by reply.Created
 follows_plan =
