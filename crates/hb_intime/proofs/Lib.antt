@@ -1,7 +1,7 @@
-mod Deeds
-mod Fronts
-mod Places
-mod Lines
-mod Ordering
-mod Beginning
-mod Explaining
+pub mod Deeds
+pub mod Fronts
+pub mod Places
+pub mod Lines
+pub mod Ordering
+pub mod Beginning
+pub mod Explaining
