@@ -218,17 +218,17 @@ some_is x y h = cc
 pub none_is : {A B : Type 0} (x : A) → None ≡ Some x → B
 none_is x h = cc
 
-at_two : {A B : Type 0} (P : A → B → Type 0) (a x : A) (b y : B) → Some a ≡ Some x → Some b ≡ Some y → P a b → P x y
+pub at_two : {A B : Type 0} (P : A → B → Type 0) (a x : A) (b y : B) → Some a ≡ Some x → Some b ≡ Some y → P a b → P x y
 at_two P a x b y e f p = subst (λ z. P x z) (some_is b y f) (subst (λ z. P z b) (some_is a x e) p)
 
 pub at_one : {A : Type 0} (P : A → Type 0) (a x : A) → Some a ≡ Some x → P a → P x
 at_one P a x e p = subst P (some_is a x e) p
 
-neither : {A B : Type 0} → (A → ⊥) → (B → ⊥) → A ⊎ B → ⊥
+pub neither : {A B : Type 0} → (A → ⊥) → (B → ⊥) → A ⊎ B → ⊥
 neither f g (inl a) = f a
 neither f g (inr b) = g b
 
-nobody : ⊥ → ⊥
+pub nobody : ⊥ → ⊥
 nobody h = h
 
 -- ---- nodes
@@ -397,7 +397,7 @@ lists_merged =
 
 -- ---- the session obeys
 
-no : {A : Type 0} → false ≡ true → A
+pub no : {A : Type 0} → false ≡ true → A
 no h = absurd (false≢true h)
 
 -- the calls since the Begin that neither decide nor undo nor prepare
@@ -591,14 +591,14 @@ lines_shown = record { same = same; callers = (lit< tt, (lit< tt, tt)) }
 
 -- ---- answers
 
-not_mgr : (n : ℕ) → n < 10 → n ≡ 10 → ⊥
+pub not_mgr : (n : ℕ) → n < 10 → n ≡ 10 → ⊥
 not_mgr n lt e = omega (arith, lt, e)
 
 -- a call of another node that begins nothing, and one of mgr
-elsewhere : (c : Call) → is_begun c.answer ≡ false → c.node.0 < 10 → is_managed c.request ≡ false → IsOfSystem c
+pub elsewhere : (c : Call) → is_begun c.answer ≡ false → c.node.0 < 10 → is_managed c.request ≡ false → IsOfSystem c
 elsewhere c b lt m = record { begins = λ h. absurd (false≢true (sym b ∙ h)); beside = λ h. elim h [ inl e ↦ absurd (not_mgr c.node.0 lt e) | inr t ↦ absurd (false≢true (sym m ∙ t)) ] }
 
-of_mgr : (c : Call) → is_begun c.answer ≡ false → tells_nothing c.answer ≡ true → IsOfSystem c
+pub of_mgr : (c : Call) → is_begun c.answer ≡ false → tells_nothing c.answer ≡ true → IsOfSystem c
 of_mgr c b t = record { begins = λ h. absurd (false≢true (sym b ∙ h)); beside = λ h. t }
 
 all_system : Each (Each IsOfSystem) (lists_of world)
@@ -630,7 +630,7 @@ all_system = (
 
 -- ---- images
 
-closed : ◌≢◌ {A = ℕ} 0 1
+pub closed : ◌≢◌ {A = ℕ} 0 1
 closed e = omega arith
 
 fes_items : HasItems after_images.fes after_logs.fes
@@ -760,7 +760,7 @@ only : (t : Txn) → IsIn t (began ∷ []) → began ≡ t
 only t (inl e) = e
 only t (inr e) = absurd e
 
-not_before : (n : ℕ) → n < n → ⊥
+pub not_before : (n : ℕ) → n < n → ⊥
 not_before n lt = omega (arith, lt)
 
 apart : OwnersApart (began ∷ [])

@@ -1,2 +1,4 @@
 pub mod AreaMade
 pub mod AreaRun
+mod Permits
+pub mod RowMade
