@@ -1,4 +1,5 @@
 pub mod AreaMade
 pub mod AreaRun
 mod Permits
+mod RowCalls
 pub mod RowMade

@@ -1,6 +1,6 @@
--- A world with rows: a session inserts a row into a table that is there and commits it; ds, which it only read, and bes1 vote, fes1
--- decides, and both commit. Given are the changes by which the table was created, as they stand in the log of ds; no entry of a group but
--- that of the row's own is looked at.
+-- A world with rows: a session inserts a row into a table that is there, selects it by its key and commits; ds, which it only read, and
+-- bes1 vote, fes1 decides, and both commit. Given are the changes by which the table was created, as they stand in the log of ds; no
+-- entry of a group but that of the row's own is looked at.
 use Rattle.std.proofs.Common.{◌≡◌, ◌≢◌, ℕ, zero, suc, ◌+◌, ◌*◌, ◌≤◌, ◌<◌, false, List, [], ◌∷◌, ◌++◌, length, Some, None, Ok, refl, subst, arith, lit≤, lit<, inl, inr}
 use Rattle.std.specs.Prelude.{Bool, ℤ, pos, codes, slice_get, filter, flat_map, map}
 use Rattle.std.proofs.lemmas.Bool.{false≢true}
@@ -63,157 +63,7 @@ use Rattle.hb_law.specs.Histories.{Labelled, Merged, Shown, Trails, calls_at, en
 use Rattle.hb_law.specs.Transactions.{AreTxns, IsRightTxn, IsSomebodys, IsTxnOf, OutcomesTold, ShowsAnswered, Txn}
 use Rattle.hb_worlds.proofs.AreaMade.{area, at_one, at_two, by, decision, elsewhere, end, n1, neither, no, nobody, none_is, not_mgr, of_mgr, reserved, s1, started, t1, vote}
 use Rattle.hb_worlds.proofs.Permits.{may_decide_by, may_enlist_by, open_by}
-
--- ---- the calls
-
-abbrev pub t2 : Tx
-t2 = record { 0 = 2 }
-
--- the first one behind the numbers that the start found reserved
-abbrev pub t3 : Tx
-t3 = record { 0 = 1001 }
-
-abbrev pub n2 : Number
-n2 = record { 0 = 2 }
-
-abbrev pub n3 : Number
-n3 = record { 0 = 3 }
-
-abbrev pub table : Table
-table = record { name = codes "T"; columns = record { name = codes "K"; size = 0 } ∷ []; key = 0; rows = [] }
-
-abbrev pub table_stored : Stored
-table_stored = at_place tables_space 0 1 (table_row table)
-
-abbrev pub values : List Value
-values = value.Int (pos 7) ∷ []
-
-abbrev pub key : ℤ
-key = pos 7
-
-abbrev pub entry : Place
-entry = entry_place 1 (group_of key)
-
-abbrev pub spot : Place
-spot = place_in 257 1 key
-
-abbrev pub entry_bytes : List ℕ
-entry_bytes = row_bytes (entry_row (At 257))
-
-abbrev pub made : Change
-made = record { place = spot; row = Some (row_bytes values) }
-
-abbrev pub tables : Path
-tables = path.Whole (dictionary_space tables_space)
-
-abbrev pub votes : List Vote
-votes = record { node = record { 0 = 1 }; floor = n2 } ∷ record { node = record { 0 = 2 }; floor = record { 0 = 0 } } ∷ []
-
-abbrev pub begins : Call
-begins = call 0 (request.Begin s1) (answer.Begun t3)
-
-abbrev pub enters : Call
-enters = call 10 (request.Enter t3 s1) answer.Done
-
-abbrev pub enlists_ds : Call
-enlists_ds = call 1 (request.Enlist t3) answer.Done
-
-abbrev pub locks_tables : Call
-locks_tables = call 1 (request.Lock t3 tables mode.S) answer.Done
-
-abbrev pub scans_tables : Call
-scans_tables = call 1 (request.Scan t3 (dictionary_space tables_space)) (answer.Rows (table_stored ∷ []))
-
-abbrev pub locks_entry : Call
-locks_entry = call 1 (request.Lock t3 (path.Key entry) mode.S) answer.Done
-
-abbrev pub reads_entry : Call
-reads_entry = call 1 (request.Read t3 entry) (answer.Row (Some entry_bytes))
-
-abbrev pub enlists_bes : Call
-enlists_bes = call 2 (request.Enlist t3) answer.Done
-
-abbrev pub locks_key : Call
-locks_key = call 2 (request.Lock t3 (path.Key spot) mode.X) answer.Done
-
-abbrev pub looks : Call
-looks = call 2 (request.Read t3 spot) (answer.Row None)
-
-abbrev pub inserts : Call
-inserts = call 2 (request.Write t3 made) answer.Done
-
-abbrev pub votes_ds : Call
-votes_ds = call 1 (request.Prepare t3) (answer.Vote n2)
-
-abbrev pub votes_bes : Call
-votes_bes = call 2 (request.Prepare t3) (answer.Vote (record { 0 = 0 }))
-
-abbrev pub decides : Call
-decides = call 0 (request.Decide t3 votes) (answer.Decided n3)
-
-abbrev pub commits_ds : Call
-commits_ds = call 1 (request.Commit t3 n3) answer.Done
-
-abbrev pub commits_bes : Call
-commits_bes = call 2 (request.Commit t3 n3) answer.Done
-
-abbrev pub leaves : Call
-leaves = call 10 (request.End t3 (record { 0 = 0 })) answer.Done
-
-abbrev pub opening : List Call
-opening = started 0 ∷ started 1 ∷ started 2 ∷ []
-
-abbrev pub planned : List Call
-planned = enlists_ds ∷ locks_tables ∷ scans_tables ∷ locks_entry ∷ reads_entry ∷ enlists_bes ∷ locks_key ∷ looks ∷ inserts ∷ []
-
-abbrev pub made_by : List Call
-made_by = begins ∷ enters ∷ planned
-
-abbrev pub committed_by : List Call
-committed_by = votes_ds ∷ votes_bes ∷ decides ∷ commits_ds ∷ commits_bes ∷ leaves ∷ []
-
-abbrev pub all_asked : List Call
-all_asked = made_by ++ committed_by ++ []
-
-abbrev pub insert : Statement
-insert = statement.Insert (codes "T") values
-
-abbrev pub committed : Reply
-committed = reply.Committed n3
-
-abbrev pub opens : Item
-opens = record { place = 0; doing = tending; calls = opening; lines = [] }
-
-abbrev pub makes : Item
-makes = record { place = 1; doing = sql insert; calls = made_by; lines = reply.Inserted ∷ [] }
-
-abbrev pub closes : Item
-closes = record { place = 2; doing = sql statement.Commit; calls = committed_by; lines = committed ∷ [] }
-
-abbrev pub all_lists : List (List Item)
-all_lists = (opens ∷ []) ∷ (makes ∷ closes ∷ []) ∷ []
-
-abbrev pub all_calls : List (List Call)
-all_calls = map calls_of all_lists
-
-abbrev pub fes_trail : List Labelled
-fes_trail = by 0 (started 0) ∷ by 1 begins ∷ by 1 decides ∷ []
-
-abbrev pub ds_trail : List Labelled
-ds_trail =
-    by 0 (started 1) ∷ by 1 enlists_ds ∷ by 1 locks_tables ∷ by 1 scans_tables ∷ by 1 locks_entry ∷ by 1 reads_entry ∷ by 1 votes_ds ∷ by 1 commits_ds ∷ []
-
-abbrev pub bes_trail : List Labelled
-bes_trail = by 0 (started 2) ∷ by 1 enlists_bes ∷ by 1 locks_key ∷ by 1 looks ∷ by 1 inserts ∷ by 1 votes_bes ∷ by 1 commits_bes ∷ []
-
-abbrev pub all_trails : Trails
-all_trails = fes_trail ∷ ds_trail ∷ bes_trail ∷ []
-
-abbrev pub began : Txn
-began = record { owner = s1; tx = 1001; items = makes ∷ closes ∷ [] }
-
-abbrev pub all_lines : List Shown
-all_lines = record { caller = 1; place = 1; reply = reply.Inserted } ∷ record { caller = 1; place = 2; reply = committed } ∷ []
+use Rattle.hb_worlds.proofs.RowCalls.{t2, t3, n2, n3, table, table_stored, values, key, entry, spot, entry_bytes, made, tables, votes, begins, enters, enlists_ds, locks_tables, scans_tables, locks_entry, reads_entry, enlists_bes, locks_key, looks, inserts, locks_row, reads_row, votes_ds, votes_bes, decides, commits_ds, commits_bes, leaves, opening, planned, made_by, shown_by, committed_by, all_asked, insert, of_key, select, the_row, committed, opens, makes, shows, closes, all_lists, all_calls, fes_trail, ds_trail, bes_trail, all_trails, began, all_lines, in_the_end, faithful, shown_faithful}
 
 -- ---- the logs
 
@@ -287,22 +137,40 @@ abbrev p10 : List Call
 p10 = p9 ++ inserts ∷ []
 
 abbrev p11 : List Call
-p11 = p10 ++ votes_ds ∷ []
+p11 = p10 ++ locks_tables ∷ []
 
 abbrev p12 : List Call
-p12 = p11 ++ votes_bes ∷ []
+p12 = p11 ++ scans_tables ∷ []
 
 abbrev p13 : List Call
-p13 = p12 ++ decides ∷ []
+p13 = p12 ++ locks_entry ∷ []
 
 abbrev p14 : List Call
-p14 = p13 ++ commits_ds ∷ []
+p14 = p13 ++ reads_entry ∷ []
 
 abbrev p15 : List Call
-p15 = p14 ++ commits_bes ∷ []
+p15 = p14 ++ locks_row ∷ []
+
+abbrev p16 : List Call
+p16 = p15 ++ reads_row ∷ []
+
+abbrev p17 : List Call
+p17 = p16 ++ votes_ds ∷ []
+
+abbrev p18 : List Call
+p18 = p17 ++ votes_bes ∷ []
+
+abbrev p19 : List Call
+p19 = p18 ++ decides ∷ []
+
+abbrev p20 : List Call
+p20 = p19 ++ commits_ds ∷ []
+
+abbrev p21 : List Call
+p21 = p20 ++ commits_bes ∷ []
 
 session_obeys : Obeys 0 all_asked
-session_obeys = ((refl, refl), (tt, ((refl, may_enlist_by 1 p1 refl), ((refl, open_by 1 p2 (inr (inl (refl, refl))) refl), ((refl, open_by 1 p3 (inr (inl (refl, refl))) refl), ((refl, open_by 1 p4 (inr (inl (refl, refl))) refl), ((refl, open_by 1 p5 (inr (inl (refl, refl))) refl), ((refl, may_enlist_by 2 p6 refl), ((refl, open_by 2 p7 (inr (inr (inr (inr (inr (inr (inl (refl, refl)))))))) refl), ((refl, open_by 2 p8 (inr (inr (inr (inr (inr (inr (inl (refl, refl)))))))) refl), ((refl, open_by 2 p9 (inr (inr (inr (inr (inr (inr (inl (refl, refl)))))))) refl), ((refl, open_by 1 p10 (inr (inl (refl, refl))) refl), ((refl, open_by 2 p11 (inr (inr (inr (inr (inr (inr (inl (refl, refl)))))))) refl), ((refl, may_decide_by votes p12 refl ((λ h. no h), ((λ h. inl refl), ((λ h. no h), ((λ h. no h), ((λ h. no h), ((λ h. no h), ((λ h. inr (inl refl)), ((λ h. no h), ((λ h. no h), ((λ h. no h), ((λ h. no h), ((λ h. no h), tt)))))))))))) refl), (inl (refl, (inr (inl (refl, refl)), inr (inr (inr (inr (inr (inr (inr (inr (inr (inr (inr (inr (inl (refl, refl))))))))))))))), (inl (refl, (inr (inr (inr (inr (inr (inr (inl (refl, refl))))))), inr (inr (inr (inr (inr (inr (inr (inr (inr (inr (inr (inr (inl (refl, refl))))))))))))))), (tt, tt)))))))))))))))))
+session_obeys = ((refl, refl), (tt, ((refl, may_enlist_by 1 p1 refl), ((refl, open_by 1 p2 (inr (inl (refl, refl))) refl), ((refl, open_by 1 p3 (inr (inl (refl, refl))) refl), ((refl, open_by 1 p4 (inr (inl (refl, refl))) refl), ((refl, open_by 1 p5 (inr (inl (refl, refl))) refl), ((refl, may_enlist_by 2 p6 refl), ((refl, open_by 2 p7 (inr (inr (inr (inr (inr (inr (inl (refl, refl)))))))) refl), ((refl, open_by 2 p8 (inr (inr (inr (inr (inr (inr (inl (refl, refl)))))))) refl), ((refl, open_by 2 p9 (inr (inr (inr (inr (inr (inr (inl (refl, refl)))))))) refl), ((refl, open_by 1 p10 (inr (inl (refl, refl))) refl), ((refl, open_by 1 p11 (inr (inl (refl, refl))) refl), ((refl, open_by 1 p12 (inr (inl (refl, refl))) refl), ((refl, open_by 1 p13 (inr (inl (refl, refl))) refl), ((refl, open_by 2 p14 (inr (inr (inr (inr (inr (inr (inl (refl, refl)))))))) refl), ((refl, open_by 2 p15 (inr (inr (inr (inr (inr (inr (inl (refl, refl)))))))) refl), ((refl, open_by 1 p16 (inr (inl (refl, refl))) refl), ((refl, open_by 2 p17 (inr (inr (inr (inr (inr (inr (inl (refl, refl)))))))) refl), ((refl, may_decide_by votes p18 refl ((λ h. no h), ((λ h. inl refl), ((λ h. no h), ((λ h. no h), ((λ h. no h), ((λ h. no h), ((λ h. inr (inl refl)), ((λ h. no h), ((λ h. no h), ((λ h. no h), ((λ h. no h), ((λ h. no h), ((λ h. no h), ((λ h. no h), ((λ h. no h), ((λ h. no h), ((λ h. no h), ((λ h. no h), tt)))))))))))))))))) refl), (inl (refl, (inr (inl (refl, refl)), inr (inr (inr (inr (inr (inr (inr (inr (inr (inr (inr (inr (inr (inr (inr (inr (inr (inr (inl (refl, refl))))))))))))))))))))), (inl (refl, (inr (inr (inr (inr (inr (inr (inl (refl, refl))))))), inr (inr (inr (inr (inr (inr (inr (inr (inr (inr (inr (inr (inr (inr (inr (inr (inr (inr (inl (refl, refl))))))))))))))))))))), (tt, tt)))))))))))))))))))))))
 
 obey : AllObey all_calls
 obey zero list h = at_one (Obeys 0) all_asked list h session_obeys
@@ -318,7 +186,7 @@ all_system : Each (Each IsOfSystem) all_calls
 all_system = (
   (elsewhere (started 0) refl (lit< tt) refl, (elsewhere (started 1) refl (lit< tt) refl, (elsewhere (started 2) refl (lit< tt) refl, tt))),
   (
-    (record { begins = λ h. (refl, refl); beside = λ h. elim h [ inl e ↦ absurd (not_mgr 0 (lit< tt) e) | inr t ↦ absurd (false≢true t) ] }, (of_mgr enters refl refl, (elsewhere enlists_ds refl (lit< tt) refl, (elsewhere locks_tables refl (lit< tt) refl, (elsewhere scans_tables refl (lit< tt) refl, (elsewhere locks_entry refl (lit< tt) refl, (elsewhere reads_entry refl (lit< tt) refl, (elsewhere enlists_bes refl (lit< tt) refl, (elsewhere locks_key refl (lit< tt) refl, (elsewhere looks refl (lit< tt) refl, (elsewhere inserts refl (lit< tt) refl, (elsewhere votes_ds refl (lit< tt) refl, (elsewhere votes_bes refl (lit< tt) refl, (elsewhere decides refl (lit< tt) refl, (elsewhere commits_ds refl (lit< tt) refl, (elsewhere commits_bes refl (lit< tt) refl, (of_mgr leaves refl refl, tt))))))))))))))))),
+    (record { begins = λ h. (refl, refl); beside = λ h. elim h [ inl e ↦ absurd (not_mgr 0 (lit< tt) e) | inr t ↦ absurd (false≢true t) ] }, (of_mgr enters refl refl, (elsewhere enlists_ds refl (lit< tt) refl, (elsewhere locks_tables refl (lit< tt) refl, (elsewhere scans_tables refl (lit< tt) refl, (elsewhere locks_entry refl (lit< tt) refl, (elsewhere reads_entry refl (lit< tt) refl, (elsewhere enlists_bes refl (lit< tt) refl, (elsewhere locks_key refl (lit< tt) refl, (elsewhere looks refl (lit< tt) refl, (elsewhere inserts refl (lit< tt) refl, (elsewhere locks_tables refl (lit< tt) refl, (elsewhere scans_tables refl (lit< tt) refl, (elsewhere locks_entry refl (lit< tt) refl, (elsewhere reads_entry refl (lit< tt) refl, (elsewhere locks_row refl (lit< tt) refl, (elsewhere reads_row refl (lit< tt) refl, (elsewhere votes_ds refl (lit< tt) refl, (elsewhere votes_bes refl (lit< tt) refl, (elsewhere decides refl (lit< tt) refl, (elsewhere commits_ds refl (lit< tt) refl, (elsewhere commits_bes refl (lit< tt) refl, (of_mgr leaves refl refl, tt))))))))))))))))))))))),
     tt,
   ),
 )
@@ -332,14 +200,8 @@ lists_merged : Merged all_trails all_calls
 lists_merged =
     record {
       same = same;
-      callers = (
-        (lit< tt, (lit< tt, (lit< tt, tt))),
-        (
-          (lit< tt, (lit< tt, (lit< tt, (lit< tt, (lit< tt, (lit< tt, (lit< tt, (lit< tt, tt)))))))),
-          ((lit< tt, (lit< tt, (lit< tt, (lit< tt, (lit< tt, (lit< tt, (lit< tt, tt))))))), tt),
-        ),
-      );
-      here = ((inl (lit< tt), (inl (lit< tt), (inl (lit< tt), tt))), ((inl (lit< tt), (inr refl, (inl (lit< tt), (inl (lit< tt), (inl (lit< tt), (inl (lit< tt), (inl (lit< tt), (inl (lit< tt), (inl (lit< tt), (inl (lit< tt), (inl (lit< tt), (inl (lit< tt), (inl (lit< tt), (inl (lit< tt), (inl (lit< tt), (inl (lit< tt), (inr refl, tt))))))))))))))))), tt));
+      callers = ((lit< tt, (lit< tt, (lit< tt, tt))), ((lit< tt, (lit< tt, (lit< tt, (lit< tt, (lit< tt, (lit< tt, (lit< tt, (lit< tt, (lit< tt, (lit< tt, (lit< tt, (lit< tt, tt)))))))))))), ((lit< tt, (lit< tt, (lit< tt, (lit< tt, (lit< tt, (lit< tt, (lit< tt, (lit< tt, (lit< tt, tt))))))))), tt)));
+      here = ((inl (lit< tt), (inl (lit< tt), (inl (lit< tt), tt))), ((inl (lit< tt), (inr refl, (inl (lit< tt), (inl (lit< tt), (inl (lit< tt), (inl (lit< tt), (inl (lit< tt), (inl (lit< tt), (inl (lit< tt), (inl (lit< tt), (inl (lit< tt), (inl (lit< tt), (inl (lit< tt), (inl (lit< tt), (inl (lit< tt), (inl (lit< tt), (inl (lit< tt), (inl (lit< tt), (inl (lit< tt), (inl (lit< tt), (inl (lit< tt), (inl (lit< tt), (inr refl, tt))))))))))))))))))))))), tt));
     }
   where
     same : (node caller : ℕ) (trail : List Labelled) (list : List Call) → slice_get all_trails node ≡ Some trail → slice_get all_calls caller ≡ Some list
@@ -359,62 +221,37 @@ began_here : IsTxnOf all_lists began
 began_here =
     record {
       front = [];
-      stretch = makes ∷ closes ∷ [];
+      stretch = makes ∷ shows ∷ closes ∷ [];
       back = [];
       first = makes;
-      others = closes ∷ [];
+      others = shows ∷ closes ∷ [];
       parts = refl;
       own = refl;
       items = refl;
       begins = record { before = []; begin = begins; more = enters ∷ planned; parts = refl; begun = refl; apart = tt; none_before = refl; none_behind = refl };
-      asked = ((refl, inl (inl refl)), tt);
+      asked = ((refl, inl (inl refl)), ((refl, inl (inl refl)), tt));
       counted = refl;
       over = tt;
-      turns = (tt, (tt, tt));
+      turns = (tt, (tt, (tt, tt)));
     }
-
--- the use of both nodes with three locks, and a change of so many bytes
-abbrev in_the_end : Use
-in_the_end = record (fresh 1001) { used = 6; locks = 3; bytes = 24 }
-
-follows : Follows false (plan 1 insert (fresh 1001)) planned (Ok reply.Inserted, in_the_end)
-unfolding plan
-follows =
-    asked answer.Done refl (asked answer.Done refl (asked (answer.Rows (table_stored ∷ [])) refl (asked answer.Done refl (asked (answer.Row (Some entry_bytes)) refl
-    (asked answer.Done refl (asked answer.Done refl (asked (answer.Row None) refl (asked answer.Done refl ends))))))))
-
-within : IsWithin (fresh 1001)
-within = record { locks = omega arith; bytes = omega arith }
-
-follows_plan : FollowsPlan 1 insert (fresh 1001) made_by reply.Inserted
-follows_plan =
-    record {
-      front = begins ∷ enters ∷ [];
-      asked = planned;
-      back = [];
-      parts = refl;
-      outcome = Ok reply.Inserted;
-      last = in_the_end;
-      follows = follows;
-      replies = refl;
-      opens = record { beside = (refl, (refl, tt)); no_rows = refl; undoes_none = (refl, (refl, tt)) };
-      closes = record { beside = tt; undone = λ h. no h };
-    }
-
--- by the law of plans, whatever the rows are that these are the answers of
-faithful : (full : Bool) × Faithful 1 nothing_spent full insert made_by reply.Inserted
-faithful = plan_faithful insert (plan_does insert refl) 1 (fresh 1001) made_by reply.Inserted (lit≤ tt) within follows_plan
 
 right : IsRightTxn 1 began
 right =
     record {
-      right = λ o. (faithful, (((refl, refl), inr (inr (inl (refl, refl)))), tt));
+      right = λ o. (faithful, (shown_faithful, (((refl, refl), inr (inr (inl (refl, refl)))), tt)));
       bound = (
         (faithful.1.undecided, faithful.1.locks, (record { replied = refl; of_select = λ h. no h; undone = λ h. no h; sourced = faithful.1.sourced }, tt)),
-        (((refl, refl), inr (inr (inl (refl, refl)))), tt),
+        (
+          (
+            shown_faithful.1.undecided,
+            shown_faithful.1.locks,
+            (record { replied = refl; of_select = λ h. refl; undone = λ h. no h; sourced = shown_faithful.1.sourced }, tt),
+          ),
+          (((refl, refl), inr (inr (inl (refl, refl)))), tt),
+        ),
       );
-      kinds = inl ((tt, (tt, tt)), (refl, lit≤ tt));
-      named = ((tt, tt), ((tt, tt), tt));
+      kinds = inl ((tt, (tt, (tt, tt))), (refl, (refl, lit≤ tt)));
+      named = ((tt, tt), ((tt, tt), ((tt, tt), tt)));
       begins = tt;
     }
 
@@ -422,11 +259,11 @@ somebodys : (caller : ℕ) (list : List Item) → slice_get all_lists caller ≡
 somebodys zero list h =
     at_one (Each (IsSomebodys (began ∷ []) 0)) (opens ∷ []) list h (inr (record { asks_none = (refl, (refl, (refl, tt))); tells_none = tt }), tt)
 somebodys (suc zero) list h =
-    at_one (Each (IsSomebodys (began ∷ []) 1)) (makes ∷ closes ∷ []) list h (inl (inl (refl, inl refl)), (inl (inl (refl, inr (inl refl))), tt))
+    at_one (Each (IsSomebodys (began ∷ []) 1)) (makes ∷ shows ∷ closes ∷ []) list h (inl (inl (refl, inl refl)), (inl (inl (refl, inr (inl refl))), (inl (inl (refl, inr (inr (inl refl)))), tt)))
 somebodys (suc (suc n)) list h = none_is list h
 
 placed : AllPlaced all_lists
-placed zero list h = at_one (ArePlaced 0 tending) (makes ∷ closes ∷ []) list h (inl (lit< tt), (inl (lit< tt), tt))
+placed zero list h = at_one (ArePlaced 0 tending) (makes ∷ shows ∷ closes ∷ []) list h (inl (lit< tt), (inl (lit< tt), (inl (lit< tt), tt)))
 placed (suc n) list h = none_is list (subst (λ k. slice_get all_lists k ≡ Some list) (next n) h)
   where
     next : (n : ℕ) → suc n + 1 ≡ suc (suc n)
@@ -436,17 +273,17 @@ are_txns : AreTxns all_lists (began ∷ [])
 are_txns = record { each = (began_here, tt); all = (tt, ((inl refl, tt), tt)); none_left = somebodys }
 
 outcomes : Each (OutcomesTold (began ∷ [])) all_lists
-outcomes = ((tt, tt), (((tt, tt), ((tt, tt), tt)), tt))
+outcomes = ((tt, tt), (((tt, tt), ((tt, tt), ((tt, tt), tt))), tt))
 
 numbers : Each (Each ShowsAnswered) all_lists
-numbers = ((tt, tt), (((tt, tt), ((inr (inr (inl (refl, refl))), tt), tt)), tt))
+numbers = ((tt, tt), (((tt, tt), ((tt, tt), ((inr (inr (inl (refl, refl))), tt), tt))), tt))
 
 lines_shown : ShowsItems all_lists all_lines
-lines_shown = record { same = same; callers = (lit< tt, (lit< tt, tt)) }
+lines_shown = record { same = same; callers = (lit< tt, (lit< tt, (lit< tt, tt))) }
   where
     same : (caller : ℕ) (list : List Item) → slice_get all_lists caller ≡ Some list → lines_by caller all_lines ≡ lines_by caller (flat_map (shown_of caller) list)
     same zero list h = at_one (λ list. lines_by 0 all_lines ≡ lines_by 0 (flat_map (shown_of 0) list)) (opens ∷ []) list h refl
-    same (suc zero) list h = at_one (λ list. lines_by 1 all_lines ≡ lines_by 1 (flat_map (shown_of 1) list)) (makes ∷ closes ∷ []) list h refl
+    same (suc zero) list h = at_one (λ list. lines_by 1 all_lines ≡ lines_by 1 (flat_map (shown_of 1) list)) (makes ∷ shows ∷ closes ∷ []) list h refl
     same (suc (suc n)) list h = none_is list h
 
 -- ---- fes1
@@ -533,8 +370,20 @@ b3 = effect.happens (effect.happens (effect.happens b2 to_whole) to_group) to_ke
 abbrev b4 : server.SState
 b4 = effect.happens b3 (effect.written 1001 made)
 
+abbrev to_whole_again : effect.Effect
+to_whole_again = effect.granted 1001 (path.Whole (space_in 257 1)) mode.IS
+
+abbrev to_group_again : effect.Effect
+to_group_again = effect.granted 1001 (path.Group (space_in 257 1) (group_of key)) mode.IS
+
+abbrev to_key_again : effect.Effect
+to_key_again = effect.granted 1001 (path.Key spot) mode.S
+
+abbrev b4r : server.SState
+b4r = effect.happens (effect.happens (effect.happens b4 to_whole_again) to_group_again) to_key_again
+
 abbrev b5 : server.SState
-b5 = effect.happens b4 (effect.prepared 1001)
+b5 = effect.happens b4r (effect.prepared 1001)
 
 abbrev b6 : server.SState
 b6 = effect.happens b5 (effect.committed 1001 3)
@@ -570,9 +419,33 @@ bes_ran =
                 b4,
                 record { effects = effect.written 1001 made ∷ []; causes = refl; right = tt; steps = ((branch bes_locks [], (inl refl, refl), inl (inr (inr (inl refl)))), refl) },
                 (
-                  b5,
-                  record { effects = effect.prepared 1001 ∷ []; causes = refl; right = refl; steps = ((branch bes_locks (made ∷ []), (inl refl, refl), (lit≤ tt, lit≤ tt)), refl) },
-                  (b6, record { effects = effect.committed 1001 3 ∷ []; causes = refl; right = tt; steps = ((0, inl (refl, refl), lit< tt), refl) }, refl),
+                  b4r,
+                  record {
+                    effects = to_whole_again ∷ to_group_again ∷ to_key_again ∷ [];
+                    causes = refl;
+                    right = inl refl;
+                    steps = (
+                      (branch bes_locks (made ∷ []), (inl refl, refl), tt, ((λ n. absurd (n refl)), tt)),
+                      (
+                        (branch bes_locks (made ∷ []), (inl refl, refl), (inl refl, tt), ((λ n. absurd (n refl)), tt)),
+                        ((branch bes_locks (made ∷ []), (inl refl, refl), (inl refl, (inr (inl refl), tt)), ((λ n. absurd (n refl)), tt)), refl),
+                      ),
+                    );
+                  },
+                  (
+                    b4r,
+                    record {
+                      effects = [];
+                      causes = refl;
+                      right = record { branch = branch bes_locks (made ∷ []); live = (inl refl, refl); covered = inl (inr (inr (inl refl))); shows = refl };
+                      steps = refl;
+                    },
+                    (
+                      b5,
+                      record { effects = effect.prepared 1001 ∷ []; causes = refl; right = refl; steps = ((branch bes_locks (made ∷ []), (inl refl, refl), (lit≤ tt, lit≤ tt)), refl) },
+                      (b6, record { effects = effect.committed 1001 3 ∷ []; causes = refl; right = tt; steps = ((0, inl (refl, refl), lit< tt), refl) }, refl),
+                    ),
+                  ),
                 ),
               ),
             ),
@@ -644,8 +517,14 @@ module _ (changes : List Change) (granted : List Held) (told : TellTable changes
   abbrev d4 : server.SState
   d4 = effect.happens (effect.happens (effect.happens d3 to_entries) to_entry_group) to_entry
 
+  abbrev d4t : server.SState
+  d4t = effect.happens d4 (effect.granted 1001 tables mode.S)
+
+  abbrev d4e : server.SState
+  d4e = effect.happens (effect.happens (effect.happens d4t to_entries) to_entry_group) to_entry
+
   abbrev d5 : server.SState
-  d5 = effect.happens d4 (effect.prepared 1001)
+  d5 = effect.happens d4e (effect.prepared 1001)
 
   abbrev d6 : server.SState
   d6 = effect.happens d5 (effect.committed 1001 3)
@@ -694,14 +573,51 @@ module _ (changes : List Change) (granted : List Held) (told : TellTable changes
                       steps = refl;
                     },
                     (
-                      d5,
+                      d4t,
                       record {
-                        effects = effect.prepared 1001 ∷ [];
+                        effects = effect.granted 1001 tables mode.S ∷ [];
                         causes = refl;
-                        right = refl;
-                        steps = ((branch ds_locks [], (inl refl, refl), (roomy (end_behind 0 (ds_before changes granted)) (record_length ds_vote) told.short (lit≤ tt), lit≤ tt)), refl);
+                        right = inl refl;
+                        steps = ((branch ds_locks [], (inl refl, refl), tt, ((λ n. absurd (n refl)), tt)), refl);
                       },
-                      (d6, record { effects = effect.committed 1001 3 ∷ []; causes = refl; right = tt; steps = ((2, inl (refl, refl), lit< tt), refl) }, refl),
+                      (
+                        d4t,
+                        record { effects = []; causes = refl; right = record { branch = branch ds_locks []; live = (inl refl, refl); covered = inl (inl refl); shows = told.the_table }; steps = refl },
+                        (
+                          d4e,
+                          record {
+                            effects = to_entries ∷ to_entry_group ∷ to_entry ∷ [];
+                            causes = refl;
+                            right = inl refl;
+                            steps = (
+                              (branch ds_locks [], (inl refl, refl), tt, ((λ n. absurd (n refl)), tt)),
+                              (
+                                (branch ds_locks [], (inl refl, refl), (inr (inl refl), tt), ((λ n. absurd (n refl)), tt)),
+                                ((branch ds_locks [], (inl refl, refl), (inr (inl refl), (inr (inr (inl refl)), tt)), ((λ n. absurd (n refl)), tt)), refl),
+                              ),
+                            );
+                          },
+                          (
+                            d4e,
+                            record {
+                              effects = [];
+                              causes = refl;
+                              right = record { branch = branch ds_locks []; live = (inl refl, refl); covered = inl (inr (inr (inr (inl refl)))); shows = told.the_entry };
+                              steps = refl;
+                            },
+                            (
+                              d5,
+                              record {
+                                effects = effect.prepared 1001 ∷ [];
+                                causes = refl;
+                                right = refl;
+                                steps = ((branch ds_locks [], (inl refl, refl), (roomy (end_behind 0 (ds_before changes granted)) (record_length ds_vote) told.short (lit≤ tt), lit≤ tt)), refl);
+                              },
+                              (d6, record { effects = effect.committed 1001 3 ∷ []; causes = refl; right = tt; steps = ((2, inl (refl, refl), lit< tt), refl) }, refl),
+                            ),
+                          ),
+                        ),
+                      ),
                     ),
                   ),
                 ),
