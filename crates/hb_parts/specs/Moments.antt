@@ -1,12 +1,13 @@
--- The law of moments in parts: the cut of a history, and its first lines.
-use Rattle.std.specs.Prelude.{◌≡◌, ℕ, List, ◌∷◌, Some, slice_get}
+-- The law of moments in parts: the cut of a history, the callers' lists at it, and its first lines.
+use Rattle.std.specs.Prelude.{◌≡◌, ◌⊎◌, ℕ, List, [], ◌∷◌, ◌++◌, Some, flat_map, slice_get}
 use Rattle.std.specs.List.{AllZip}
 use Rattle.hb_types.specs.declared.trail.Call.{Call}
 use Rattle.hb_law.specs.Histories.{Event, History, Labelled, Shown, Trails, trail_in}
 use Rattle.hb_types.specs.Lists.{IsIn}
 use Rattle.hb_model.specs.Items.{Item}
 use Rattle.hb_disks.specs.Images.{Logs}
-use Rattle.hb_law.specs.Moments.{IsCut, IsTrailAt, with_first_lines}
+use Rattle.hb_law.specs.InTime.{InItsOrder, deeds_in, deeds_of}
+use Rattle.hb_law.specs.Moments.{IsCut, IsPartOf, IsTrailAt, with_first_lines}
 use Rattle.hb_law.specs.Ordered.{InOrder}
 use Rattle.hb_law.specs.Transactions.{Txn}
 
@@ -20,6 +21,28 @@ abbrev pub CutsAre : Type 0
 CutsAre =
     (moment : ℕ) (h : List Event) (trails fronts : Trails) (lists : List (List Call)) (lines : List Shown)
     → History h trails lists lines → AllZip (IsTrailAt moment) trails fronts → HasCut moment h fronts
+
+-- a caller's items at a cut: they are whole, and behind them is perhaps one more as far as it came
+abbrev pub IsAmid : List Item → List Item → List Item → Type 0
+IsAmid whole [] came = ⊥
+IsAmid whole (i ∷ more) came = (part : Item) × IsPartOf i part × (came ≡ whole ++ part ∷ [])
+
+pub record CameTo (list came : List Item) : Type 0 where
+  pub whole : List Item
+  pub rest : List Item
+  pub parts : list ≡ whole ++ rest
+  pub last : (came ≡ whole) ⊎ IsAmid whole rest came
+
+-- the callers' lists at a cut do what the cut has
+pub record AreListsAt (cut : List Event) (lists came : List (List Item)) : Type 0 where
+  pub parts : AllZip CameTo lists came
+  pub deeds : (caller : ℕ) (list : List Item) → slice_get came caller ≡ Some list → deeds_in caller cut ≡ flat_map deeds_of list
+
+-- where callers did their items in their order, a cut has such lists
+abbrev pub HasLists : Type 0
+HasLists =
+    (moment : ℕ) (h cut : List Event) (lists : List (List Item)) → IsCut moment h cut → InItsOrder h lists
+    → (came : List (List Item)) × AreListsAt cut lists came
 
 -- a transaction as far as it came, which begins as the other does
 pub record BeginsAs (t u : Txn) : Type 0 where
