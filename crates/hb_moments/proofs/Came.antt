@@ -157,5 +157,134 @@ front_came (i ∷ is) (d ∷ ds) rest e = by (split (deeds_of i) (flat_map deeds
     own more (past done q k) = of_lines done more q k
 
     by : Split (deeds_of i) (flat_map deeds_of is) (d ∷ ds) rest → ((done : List Deed) → flat_map deeds_of is ≡ done ++ rest → CameAs is done) → CameAs (i ∷ is) (d ∷ ds)
-    by (within more q) further = own more (split (map asks i.calls) (map (says i.place) (quiet i)) (d ∷ ds) more (sym q ∙ refl at more q))
+    by (within more q) further = own more (split (map asks i.calls) (map (says i.place) (quiet i)) (d ∷ ds) more q)
     by (past done q k) further = one_more i is (d ∷ ds) done q (further done k)
+
+-- ---- with the call in progress, answered otherwise
+
+abbrev answered : Answer → Call → Call
+answered a x = record x { answer = a }
+
+call_first : (x : Call) (m : List Deed) (cs : List Call) → asks x ∷ m ≡ map asks cs → (more : List Call) × (cs ≡ x ∷ more)
+call_first x m [] e = absurd (nil_is [] (asks x) m (sym e))
+call_first x m (c ∷ cs) e = (cs, ap (λ z. z ∷ cs) (sym (asks_is x c (heads (asks x) (asks c) m (map asks cs) e).0)))
+
+last_came : (list : List Item) (ds : List Deed) (x : Call) (rest : List Deed) (a : Answer) → flat_map deeds_of list ≡ ds ++ asks x ∷ rest
+    → CameAs list (ds ++ asks (answered a x) ∷ [])
+last_came [] ds x rest a e = absurd (nil_is ds (asks x) rest e)
+last_came (i ∷ is) ds x rest a e = by (cut (deeds_of i) (flat_map deeds_of is) ds (asks x) rest e) (λ done q. last_came is done x rest a q)
+  where
+    of_calls : (more : List Deed) → map asks i.calls ≡ ds ++ asks x ∷ more → CameAs (i ∷ is) (ds ++ asks (answered a x) ∷ [])
+    of_calls more q =
+        let y = unmapped asks i.calls ds (asks x ∷ more) q in
+        let z = call_first x more y.back y.behind in
+        amid i (record i { calls = y.front ++ answered a x ∷ []; lines = [] }) is (ds ++ asks (answered a x) ∷ [])
+        (record {
+          place = refl;
+          doing = refl;
+          calls_so_far =
+              inr (
+                refl,
+                record {
+                  done = y.front;
+                  rest = y.back;
+                  parts = y.parts;
+                  last = inr (subst (λ b. LastAsked y.front b (y.front ++ answered a x ∷ [])) (sym z.1) (a, refl));
+                },
+              );
+          lines_so_far = (i.lines, refl);
+        })
+        (ap (λ l. l ++ asks (answered a x) ∷ []) y.before ∙ sym (map_append asks y.front (answered a x ∷ [])) ∙ sym (append-nil (map asks (y.front ++ answered a x ∷ []))))
+
+    no_line : (done more : List Deed) → map (says i.place) (quiet i) ≡ done ++ asks x ∷ more → ⊥
+    no_line done more k =
+        let y = in_map (says i.place) (asks x) (quiet i) (subst (IsIn (asks x)) (sym k) (is_there (asks x) done more)) in
+        asks_says x i.place y.0 (sym y.2)
+
+    own : (more : List Deed) → Cut (map asks i.calls) (map (says i.place) (quiet i)) ds (asks x) more → CameAs (i ∷ is) (ds ++ asks (answered a x) ∷ [])
+    own more (inside m q) = of_calls m q
+    own more (beyond done q k) = absurd (no_line done more k)
+
+    by : Cut (deeds_of i) (flat_map deeds_of is) ds (asks x) rest
+        → ((done : List Deed) → flat_map deeds_of is ≡ done ++ asks x ∷ rest → CameAs is (done ++ asks (answered a x) ∷ []))
+        → CameAs (i ∷ is) (ds ++ asks (answered a x) ∷ [])
+    by (inside more q) further = own more (cut (map asks i.calls) (map (says i.place) (quiet i)) ds (asks x) more q)
+    by (beyond done q k) further =
+        one_more i is (ds ++ asks (answered a x) ∷ []) (done ++ asks (answered a x) ∷ [])
+        (ap (λ l. l ++ asks (answered a x) ∷ []) q ∙ append_assoc (deeds_of i) done (asks (answered a x) ∷ []))
+        (further done k)
+
+-- ---- at a cut
+
+-- what came of one caller's items
+record OneCame (cut : List Event) (caller : ℕ) (list : List Item) : Type 0 where
+  came : List Item
+  to : CameTo list came
+  deeds : deeds_in caller cut ≡ flat_map deeds_of came
+
+module _ (m : ℕ) (h kept : List Event) (caller : ℕ) (list : List Item) (k : IsCut m h kept) (own : deeds_in caller h ≡ flat_map deeds_of list) where
+  whole : flat_map deeds_of list ≡ deeds_in caller k.done ++ deeds_in caller k.rest
+  whole = sym own ∙ ap (deeds_in caller) k.parts ∙ deeds_append caller k.done k.rest
+
+  so_far : (rest : List Event) → flat_map deeds_of list ≡ deeds_in caller k.done ++ deeds_in caller rest → deeds_in caller kept ≡ deeds_in caller k.done → OneCame kept caller list
+  so_far rest e q =
+      let y = front_came list (deeds_in caller k.done) (deeds_in caller rest) e in record { came = y.came; to = y.to; deeds = q ∙ y.deeds }
+
+  module _ (d n : ℕ) (entry : TrailEntry) (more : List Event) (a : Answer) (is : kept ≡ k.done ++ calls d n (record entry { answer = a }) ∷ [])
+      (e : flat_map deeds_of list ≡ deeds_in caller k.done ++ deeds_in caller (calls d n entry ∷ more)) where
+    abbrev asked_last : Call
+    asked_last = record { node = record { 0 = n }; request = entry.request; answer = entry.answer }
+
+    kept_deeds : deeds_in caller kept ≡ deeds_in caller k.done ++ deeds_in caller (calls d n (record entry { answer = a }) ∷ [])
+    kept_deeds = ap (deeds_in caller) is ∙ deeds_append caller k.done (calls d n (record entry { answer = a }) ∷ [])
+
+    mine : (d == caller) ≡ true → OneCame kept caller list
+    mine t =
+        let first : deeds_in caller (calls d n entry ∷ more) ≡ asks asked_last ∷ deeds_in caller more = rw t refl in
+        let last : deeds_in caller (calls d n (record entry { answer = a }) ∷ []) ≡ asks (answered a asked_last) ∷ [] = rw t refl in
+        let y = last_came list (deeds_in caller k.done) asked_last (deeds_in caller more) a (e ∙ ap (λ l. deeds_in caller k.done ++ l) first) in
+        record { came = y.came; to = y.to; deeds = kept_deeds ∙ ap (λ l. deeds_in caller k.done ++ l) last ∙ y.deeds }
+
+    anothers : (d == caller) ≡ false → OneCame kept caller list
+    anothers f =
+        let none : deeds_in caller (calls d n (record entry { answer = a }) ∷ []) ≡ [] = rw f refl in
+        so_far (calls d n entry ∷ more) e (kept_deeds ∙ ap (λ l. deeds_in caller k.done ++ l) none ∙ append-nil (deeds_in caller k.done))
+
+    of_call : OneCame kept caller list
+    of_call = by_test (d == caller) mine anothers
+
+  one_came : OneCame kept caller list
+  one_came = by k.rest k.last whole
+    where
+      by : (rest : List Event) → (kept ≡ k.done) ⊎ CallInProgress m k.done rest kept → flat_map deeds_of list ≡ deeds_in caller k.done ++ deeds_in caller rest
+          → OneCame kept caller list
+      by rest (inl q) e = so_far rest e (ap (deeds_in caller) q)
+      by [] (inr h) e = absurd h
+      by (gives d p ∷ more) (inr h) e = absurd h
+      by (shows d p r ∷ more) (inr h) e = absurd h
+      by (calls d n entry ∷ more) (inr h) e = of_call d n entry more h.1.0 h.1.1 e
+
+-- a member for each
+record Chosen {A B : Type 0} (xs : List A) (Q : A → B → Type 0) (P : ℕ → B → Type 0) : Type 0 where
+  ys : List B
+  zipped : AllZip Q xs ys
+  each : (k : ℕ) (y : B) → slice_get ys k ≡ Some y → P k y
+
+choose : {A B : Type 0} (xs : List A) (Q : A → B → Type 0) (P : ℕ → B → Type 0)
+    → ((k : ℕ) (x : A) → slice_get xs k ≡ Some x → (y : B) × Q x y × P k y) → Chosen xs Q P
+choose [] Q P f = record { ys = []; zipped = tt; each = λ k y g. absurd (none_some y g) }
+choose {B = B} (x ∷ xs) Q P f = by (f zero x refl) (choose xs Q (λ k. P (suc k)) (λ k z g. f (suc k) z g))
+  where
+    by : (y : B) × Q x y × P zero y → Chosen xs Q (λ k. P (suc k)) → Chosen (x ∷ xs) Q P
+    by y rest = record { ys = y.0 ∷ rest.ys; zipped = (y.1, rest.zipped); each = at }
+      where
+        at : (k : ℕ) (z : B) → slice_get (y.0 ∷ rest.ys) k ≡ Some z → P k z
+        at zero z g = subst (P zero) (some_is y.0 z g) y.2
+        at (suc k) z g = rest.each k z g
+
+pub lists_came : (m : ℕ) (h kept : List Event) (lists : List (List Item)) → IsCut m h kept → InItsOrder h lists
+    → (came : List (List Item)) × AreListsAt kept lists came
+lists_came m h kept lists k order =
+    let c = choose lists CameTo (λ caller list. deeds_in caller kept ≡ flat_map deeds_of list)
+    (λ caller list g. let y = one_came m h kept caller list k (order.own caller list g) in (y.came, y.to, y.deeds)) in
+    (c.ys, record { parts = c.zipped; deeds = c.each })

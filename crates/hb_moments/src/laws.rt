@@ -1,9 +1,36 @@
-// The cut of a history at a moment, and its first lines.
-ghost use Rattle.hb_parts.specs.Moments.{CutsAre, FirstLinesInOrder};
+// The cut of a history at a moment, the callers' lists at it, and its first lines.
+ghost use Rattle.hb_parts.specs.Moments.{
+  CutsAre,
+  CutsAreHistories,
+  FirstLinesInOrder,
+  HasLists,
+  HistoriesMerge,
+  ListsKeepWithin,
+};
 
 /// Where each node has what it had answered by a moment, perhaps with the call in progress, the history has such a cut.
 pub fn cuts_are()
     ensures { CutsAre }
+{}
+
+/// At a cut each caller's items are the first of its list, all whole but perhaps the last, which is as far as it came.
+pub fn has_lists()
+    ensures { HasLists }
+{}
+
+/// The trails, lists and lines of one history are merged.
+pub fn histories_merge()
+    ensures { HistoriesMerge }
+{}
+
+/// A cut is a history of its trails, of the lists at it and of its lines.
+pub fn cuts_are_histories()
+    ensures { CutsAreHistories }
+{}
+
+/// Lists as far as they came obey, are placed, and show numbers that were answered, where the whole ones do.
+pub fn lists_keep_within()
+    ensures { ListsKeepWithin }
 {}
 
 /// What stands in the order of its numbers does so where only the first lines are taken.
