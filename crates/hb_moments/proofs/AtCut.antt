@@ -1,5 +1,5 @@
 -- A cut as a history of its own: its trails, its lists and its lines.
-use Rattle.std.proofs.Common.{◌≡◌, ◌⊎◌, ◌∙◌, ℕ, ◌<◌, ◌≤◌, zero, suc, Bool, true, false, List, [], ◌∷◌, ◌++◌, Some, ap, inl, inr, length, map, refl, subst, sym}
+use Rattle.std.proofs.Common.{◌≡◌, ◌⊎◌, ◌∙◌, ℕ, ◌<◌, zero, suc, Bool, List, [], ◌∷◌, ◌++◌, Some, ap, inl, inr, length, map, refl, subst, sym}
 use Rattle.std.specs.Prelude.{◌==◌, ◌&&◌, filter, flat_map, not, slice_get}
 use Rattle.std.specs.List.{AllZip}
 use Rattle.std.proofs.lemmas.Bool.{eqb-true}
@@ -15,7 +15,6 @@ use Rattle.hb_law.specs.Composition.{ShowsItems, lines_by, shown_of}
 use Rattle.hb_law.specs.Histories.{Event, History, IsHere, IsNode, IsTimely, Labelled, Merged, Shown, Trails, calls, calls_at, entries_of, gives, lines_in, list_in, shows, stands, trail_in}
 use Rattle.hb_law.specs.InTime.{Deed, asks, deeds_in, deeds_of, is_busy, says}
 use Rattle.hb_law.specs.Moments.{CallInProgress, IsCut}
-use Rattle.hb_whose.proofs.Parts.{none_some, some_is}
 use Rattle.hb_whose.proofs.Trailing.{same_number}
 use Rattle.hb_steps.proofs.ItemCalls.{got_map}
 use Rattle.hb_parts.specs.Moments.{AreListsAt, CameTo}
@@ -109,11 +108,11 @@ entries_called node c (shows d p r ∷ es) = entries_called node c es
 entries_called node c (calls d n entry ∷ es) =
     by_test (n == node)
     (λ t. by_test (d == c)
-        (λ u. rw (t, u) (rw t (ap (λ l. record { request = entry.request; answer = entry.answer } ∷ l) (entries_called node c es))))
-        (λ f. rw (t, f) (entries_called node c es)))
+    (λ u. rw (t, u) (rw t (ap (λ l. record { request = entry.request; answer = entry.answer } ∷ l) (entries_called node c es))))
+    (λ f. rw (t, f) (entries_called node c es)))
     (λ f. by_test (d == c) (λ u. rw (f, u) (rw f (entries_called node c es))) (λ g. rw (f, g) (entries_called node c es)))
 
-each_at : {A : Type 0} (P : A → Type 0) (xs : List A) → ((k : ℕ) (x : A) → slice_get xs k ≡ Some x → P x) → Each P xs
+pub each_at : {A : Type 0} (P : A → Type 0) (xs : List A) → ((k : ℕ) (x : A) → slice_get xs k ≡ Some x → P x) → Each P xs
 each_at P [] f = tt
 each_at P (x ∷ xs) f = (f zero x refl, each_at P xs (λ k y g. f (suc k) y g))
 

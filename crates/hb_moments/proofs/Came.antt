@@ -2,7 +2,6 @@
 use Rattle.std.proofs.Common.{◌≡◌, ◌⊎◌, ◌∙◌, ℕ, zero, suc, Bool, true, false, List, [], ◌∷◌, ◌++◌, Some, ap, append_assoc, append-nil, inl, inr, map, refl, subst, sym}
 use Rattle.std.specs.Prelude.{◌==◌, filter, flat_map, not, slice_get}
 use Rattle.std.specs.List.{AllZip}
-use Rattle.std.proofs.lemmas.Bool.{eqb-true}
 use Rattle.hb_types.specs.declared.answer.Answer.{Answer}
 use Rattle.hb_types.specs.declared.trail.Call.{Call}
 use Rattle.hb_types.specs.declared.trail.TrailEntry.{TrailEntry}
@@ -13,9 +12,8 @@ use Rattle.hb_model.specs.declared.reply.Reply.{Reply}
 use Rattle.hb_model.specs.Items.{Item}
 use Rattle.hb_law.specs.Histories.{Event, calls, gives, shows}
 use Rattle.hb_law.specs.InTime.{Deed, InItsOrder, asks, deeds_in, deeds_of, is_busy, says}
-use Rattle.hb_law.specs.Moments.{AreSoFar, CallInProgress, IsCut, IsPartOf, LastAsked}
+use Rattle.hb_law.specs.Moments.{CallInProgress, IsCut, IsPartOf, LastAsked}
 use Rattle.hb_whose.proofs.Parts.{is_there, none_some, some_is}
-use Rattle.hb_whose.proofs.Trailing.{same_number}
 use Rattle.hb_intime.proofs.Deeds.{Cut, beyond, cut, deeds_append, inside}
 use Rattle.hb_parts.specs.Moments.{AreListsAt, CameTo, IsAmid}
 

@@ -1,4 +1,6 @@
+pub mod Answering
 pub mod AtCut
+pub mod AtMoment
 pub mod Came
 pub mod Cuts
 pub mod FirstLines

@@ -1,11 +1,14 @@
 // The cut of a history at a moment, the callers' lists at it, and its first lines.
 ghost use Rattle.hb_parts.specs.Moments.{
+  AnswersAreOfNodes,
   CutsAre,
   CutsAreHistories,
+  CutsAreOfSystem,
   FirstLinesInOrder,
   HasLists,
   HistoriesMerge,
   ListsKeepWithin,
+  MomentsAreCallings,
 };
 
 /// Where each node has what it had answered by a moment, perhaps with the call in progress, the history has such a cut.
@@ -31,6 +34,21 @@ pub fn cuts_are_histories()
 /// Lists as far as they came obey, are placed, and show numbers that were answered, where the whole ones do.
 pub fn lists_keep_within()
     ensures { ListsKeepWithin }
+{}
+
+/// What a node answers in its run is of its kind.
+pub fn answers_are_of_nodes()
+    ensures { AnswersAreOfNodes }
+{}
+
+/// At a cut each call was answered as a system answers, the one in progress too.
+pub fn cuts_are_of_system()
+    ensures { CutsAreOfSystem }
+{}
+
+/// What a moment leaves, with all lines of its cut: all premises of the law of composition but those on transactions and outcomes.
+pub fn moments_are_callings()
+    ensures { MomentsAreCallings }
 {}
 
 /// What stands in the order of its numbers does so where only the first lines are taken.

@@ -1,22 +1,34 @@
 -- The law of moments in parts: the cut of a history, the callers' lists at it, and its first lines.
-use Rattle.std.specs.Prelude.{◌≡◌, ◌⊎◌, ℕ, List, [], ◌∷◌, ◌++◌, Some, flat_map, length, map, slice_get}
+use Rattle.std.specs.Prelude.{◌≡◌, ◌⊎◌, ℕ, ◌≤◌, List, [], ◌∷◌, ◌++◌, Some, flat_map, length, map, slice_get}
 use Rattle.std.specs.List.{AllZip}
 use Rattle.hb_types.specs.declared.trail.Call.{Call}
-use Rattle.hb_law.specs.Composition.{AllObey, AllPlaced, OperatorObeys, ShowsItems}
-use Rattle.hb_law.specs.Histories.{Event, History, Labelled, Merged, Shown, Trails, lines_in, trail_in}
+use Rattle.hb_types.specs.declared.trail.TrailEntry.{TrailEntry}
+use Rattle.hb_law.specs.Composition.{AllObey, AllPlaced, NodesRan, OperatorObeys, ShowsItems, Together, World, lists_of}
+use Rattle.hb_law.specs.Histories.{Event, History, Labelled, Merged, Shown, Trails, calls, lines_in, trail_in}
 use Rattle.hb_types.specs.Lists.{Each, IsIn}
 use Rattle.hb_model.specs.Items.{Item, calls_of}
-use Rattle.hb_disks.specs.Images.{Logs}
+use Rattle.hb_disks.specs.Disks.{written}
+use Rattle.hb_disks.specs.Images.{Images, Logs}
+use Rattle.hb_runs.specs.Kinds.{IsOfNode}
+use Rattle.hb_law.specs.Answering.{IsOfSystem}
 use Rattle.hb_law.specs.InTime.{InItsOrder, deeds_in, deeds_of}
-use Rattle.hb_law.specs.Moments.{IsCut, IsPartOf, IsTrailAt, with_first_lines}
+use Rattle.hb_law.specs.Moments.{IsCut, IsLeftRightly, IsPartOf, IsTrailAt, with_first_lines}
 use Rattle.hb_law.specs.Ordered.{InOrder}
 use Rattle.hb_law.specs.Transactions.{ShowsAnswered, Txn}
+use Rattle.hb_parts.specs.Callings.{Callings}
+
+abbrev pub LastAtNode : Trails → List Event → List Event → Type 0
+LastAtNode fronts done cut =
+    (caller : ℕ) × (node : ℕ) × (entry : TrailEntry) × (front : List Labelled) × (slice_get fronts node ≡ Some front)
+    × (cut ≡ done ++ calls caller node entry ∷ [])
 
 -- the history up to a moment, with the call in progress where a node has it, and that answer
 pub record HasCut (moment : ℕ) (h : List Event) (fronts : Trails) : Type 0 where
   pub cut : List Event
   pub is_cut : IsCut moment h cut
   pub are_trails : (node : ℕ) (front : List Labelled) → slice_get fronts node ≡ Some front → front ≡ trail_in node cut
+  -- the call in progress is at a node that has a trail
+  pub at_node : (cut ≡ is_cut.done) ⊎ LastAtNode fronts is_cut.done cut
 
 abbrev pub CutsAre : Type 0
 CutsAre =
@@ -69,6 +81,35 @@ abbrev pub ListsKeepWithin : Type 0
 ListsKeepWithin =
     (lists came : List (List Item)) → AllObey (map calls_of lists) → OperatorObeys (map calls_of lists) → AllPlaced lists → Each (Each ShowsAnswered) lists
     → AllZip CameTo lists came → KeepWithin came
+
+-- what a node answered in its run is of its kind
+abbrev pub AnswersAreOfNodes : Type 0
+AnswersAreOfNodes =
+    (base logs : Logs) (trails : Trails) (trail : List Labelled) (l : Labelled) (node : ℕ) → NodesRan base logs trails → length base.servers ≤ 9
+    → IsIn l trail → slice_get trails node ≡ Some trail → IsOfNode node l.entry.request l.entry.answer
+
+-- at a cut each call was answered as a system answers, the one in progress too
+abbrev pub CutsAreOfSystem : Type 0
+CutsAreOfSystem =
+    (base logs : Logs) (moment : ℕ) (h : List Event) (trails fronts : Trails) (lists came : List (List Call)) (lines shown : List Shown)
+    (k : HasCut moment h fronts) → History h trails lists lines → History k.cut fronts came shown → length came ≡ length lists
+    → NodesRan base logs fronts → length base.servers ≤ 9 → Each (Each IsOfSystem) lists → Each (Each IsOfSystem) came
+
+-- What a moment of a run leaves, with all lines of its cut: a history, lists as far as they came, and all premises of the law of
+-- composition but those on transactions and outcomes.
+pub record AtMoment (w : World) (h : List Event) (moment : ℕ) (logs : Logs) (fronts : Trails) : Type 0 where
+  pub has_cut : HasCut moment h fronts
+  pub came : List (List Item)
+  pub lists : AreListsAt has_cut.cut w.lists came
+  pub history : History has_cut.cut fronts (map calls_of came) (lines_in has_cut.cut)
+  pub shown : ShowsItems came (lines_in has_cut.cut)
+  pub within : KeepWithin came
+  pub callings : Callings w.base logs fronts (map calls_of came)
+
+abbrev pub MomentsAreCallings : Type 0
+MomentsAreCallings =
+    (w : World) (h : List Event) (moment : ℕ) (images : Images) → Together written w → History h w.trails (lists_of w) w.lines → InItsOrder h w.lists
+    → (left : IsLeftRightly written w moment images) → AtMoment w h moment left.logs left.fronts
 
 -- a transaction as far as it came, which begins as the other does
 pub record BeginsAs (t u : Txn) : Type 0 where
