@@ -1,6 +1,7 @@
 // The cut of a history at a moment, the callers' lists at it, and its first lines.
 ghost use Rattle.hb_parts.specs.Moments.{
   AnswersAreOfNodes,
+  BeginsMayFail,
   CutsAre,
   CutsAreHistories,
   CutsAreOfSystem,
@@ -39,6 +40,11 @@ pub fn lists_keep_within()
 /// What a node answers in its run is of its kind.
 pub fn answers_are_of_nodes()
     ensures { AnswersAreOfNodes }
+{}
+
+/// A Begin that was asked last may have been answered NoMemory as well: the log is the same, and nothing is begun.
+pub fn begins_may_fail()
+    ensures { BeginsMayFail }
 {}
 
 /// At a cut each call was answered as a system answers, the one in progress too.

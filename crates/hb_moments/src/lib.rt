@@ -4,6 +4,6 @@
 mod laws;
 
 pub use laws::{
-    answers_are_of_nodes, cuts_are, cuts_are_histories, cuts_are_of_system, first_lines_in_order,
-    has_lists, histories_merge, lists_keep_within, moments_are_callings,
+    answers_are_of_nodes, begins_may_fail, cuts_are, cuts_are_histories, cuts_are_of_system,
+    first_lines_in_order, has_lists, histories_merge, lists_keep_within, moments_are_callings,
 };

@@ -1,9 +1,13 @@
 -- The law of moments in parts: the cut of a history, the callers' lists at it, and its first lines.
 use Rattle.std.specs.Prelude.{◌≡◌, ◌⊎◌, ℕ, ◌≤◌, List, [], ◌∷◌, ◌++◌, Some, flat_map, length, map, slice_get}
 use Rattle.std.specs.List.{AllZip}
+use Rattle.hb_types.specs.declared.answer.Answer.TheVariants as answer
+use Rattle.hb_types.specs.declared.change.LogItem.{LogItem}
+use Rattle.hb_types.specs.declared.names.Owner.{Owner}
+use Rattle.hb_types.specs.declared.request.Request.TheVariants as request
 use Rattle.hb_types.specs.declared.trail.Call.{Call}
 use Rattle.hb_types.specs.declared.trail.TrailEntry.{TrailEntry}
-use Rattle.hb_law.specs.Composition.{AllObey, AllPlaced, NodesRan, OperatorObeys, ShowsItems, Together, World, lists_of}
+use Rattle.hb_law.specs.Composition.{AllObey, AllPlaced, CoordinatorRan, NodesRan, OperatorObeys, ShowsItems, Together, World, lists_of}
 use Rattle.hb_law.specs.Histories.{Event, History, Labelled, Merged, Shown, Trails, calls, lines_in, trail_in}
 use Rattle.hb_types.specs.Lists.{Each, IsIn}
 use Rattle.hb_model.specs.Items.{Item, calls_of}
@@ -12,7 +16,7 @@ use Rattle.hb_disks.specs.Images.{Images, Logs}
 use Rattle.hb_runs.specs.Kinds.{IsOfNode}
 use Rattle.hb_law.specs.Answering.{IsOfSystem}
 use Rattle.hb_law.specs.InTime.{InItsOrder, deeds_in, deeds_of}
-use Rattle.hb_law.specs.Moments.{IsCut, IsLeftRightly, IsPartOf, IsTrailAt, with_first_lines}
+use Rattle.hb_law.specs.Moments.{IsCut, IsLeftRightly, IsPartOf, IsTrailAt, answered_as, with_first_lines}
 use Rattle.hb_law.specs.Ordered.{InOrder}
 use Rattle.hb_law.specs.Transactions.{ShowsAnswered, Txn}
 use Rattle.hb_parts.specs.Callings.{Callings}
@@ -87,6 +91,13 @@ abbrev pub AnswersAreOfNodes : Type 0
 AnswersAreOfNodes =
     (base logs : Logs) (trails : Trails) (trail : List Labelled) (l : Labelled) (node : ℕ) → NodesRan base logs trails → length base.servers ≤ 9
     → IsIn l trail → slice_get trails node ≡ Some trail → IsOfNode node l.entry.request l.entry.answer
+
+-- a Begin that was asked last leaves the log that it leaves where memory was wanting
+abbrev pub BeginsMayFail : Type 0
+BeginsMayFail =
+    (before after : List LogItem) (done : List Labelled) (l : Labelled) (owner : Owner) (tx : ℕ) → l.entry.request ≡ request.Begin owner
+    → l.entry.answer ≡ answer.Begun (record { 0 = tx }) → CoordinatorRan before after (done ++ l ∷ [])
+    → CoordinatorRan before after (done ++ answered_as answer.NoMemory l ∷ [])
 
 -- at a cut each call was answered as a system answers, the one in progress too
 abbrev pub CutsAreOfSystem : Type 0
