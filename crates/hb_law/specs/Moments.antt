@@ -106,11 +106,22 @@ abbrev pub NoneLags : List Txn → ℕ → List Event → Type 0
 NoneLags txns n cut =
     Each (λ t. Has (AsksToDecide t.tx) cut → Each (AreIn (caller_of t.owner) (lines_in (with_first_lines n cut))) (but_last t.items)) txns
 
--- an item as far as it came
+-- calls as far as they came: the first of them, and perhaps the one in progress, whose answer may be another
+abbrev pub LastAsked : List Call → List Call → List Call → Type 0
+LastAsked done [] part = ⊥
+LastAsked done (c ∷ more) part = (a : Answer) × (part ≡ done ++ record c { answer = a } ∷ [])
+
+pub record AreSoFar (whole part : List Call) : Type 0 where
+  pub done : List Call
+  pub rest : List Call
+  pub parts : whole ≡ done ++ rest
+  pub last : (part ≡ done) ⊎ LastAsked done rest part
+
+-- an item as far as it came: until it has made all of its calls it has no line
 pub record IsPartOf (whole part : Item) : Type 0 where
   pub place : part.place ≡ whole.place
   pub doing : part.doing ≡ whole.doing
-  pub calls_so_far : (rest : List Call) × (whole.calls ≡ part.calls ++ rest)
+  pub calls_so_far : (part.calls ≡ whole.calls) ⊎ ((part.lines ≡ []) × AreSoFar whole.calls part.calls)
   pub lines_so_far : (rest : List Reply) × (whole.lines ≡ part.lines ++ rest)
 
 -- the first of a list's items, each as far as it came

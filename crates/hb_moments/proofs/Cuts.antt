@@ -147,6 +147,7 @@ module _ (m : ℕ) (h : List Event) (trails fronts : Trails) (lists : List (List
         cut = k.done;
         is_cut = record { done = k.done; rest = k.rest; parts = k.parts; full = k.full; over = k.over; not_over = k.not_over; last = inl refl };
         are_trails = are;
+        at_node = inl refl;
       }
 
   none_begun : (done rest front : List Labelled) → Each (λ l. m < l.entry.from) rest → InProgress m done rest front → ⊥
@@ -188,6 +189,7 @@ module _ (m : ℕ) (h : List Event) (trails fronts : Trails) (lists : List (List
                 last = inr (begun, (a, refl));
               };
           are_trails = λ node other o. by_test (n == node) (λ t. same node other t o) (λ f. apart node other f o);
+          at_node = inr (c, n, record entry { answer = a }, front, g, refl);
         }
       where
         one : trail_in n (calls c n (record entry { answer = a }) ∷ []) ≡ record { caller = c; entry = record entry { answer = a } } ∷ []

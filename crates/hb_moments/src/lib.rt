@@ -1,6 +1,9 @@
-//! What a moment leaves of a run: the history up to it, with the first of its lines. Laws only.
+//! What a moment leaves of a run: the history up to it and the callers' lists, with the first of its lines. Laws only.
 #![tactic(auto)]
 
 mod laws;
 
-pub use laws::{cuts_are, first_lines_in_order};
+pub use laws::{
+    answers_are_of_nodes, begins_may_fail, cuts_are, cuts_are_histories, cuts_are_of_system,
+    first_lines_in_order, has_lists, histories_merge, lists_keep_within, moments_are_callings,
+};
