@@ -3,3 +3,4 @@ pub mod AreaRun
 mod Permits
 mod RowCalls
 pub mod RowMade
+pub mod TableGiven
