@@ -1,0 +1,4 @@
+pub mod Systems
+pub mod Currents
+pub mod Stretches
+pub mod Joining

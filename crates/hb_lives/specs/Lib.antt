@@ -1,0 +1,3 @@
+pub mod Stretches
+pub mod Systems
+pub mod Joining

@@ -1,0 +1,6 @@
+//! What a session asks and shows in its whole life, as the law of composition wants it.
+#![tactic(auto)]
+
+mod laws;
+
+pub use laws::{added_are_of_system, lists_are_told, stretches_are_txns};
