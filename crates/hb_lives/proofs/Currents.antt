@@ -1,5 +1,5 @@
 -- What is asked behind the Begin of one transaction is of no other.
-use Rattle.std.proofs.Common.{◌≡◌, ◌≢◌, ◌∙◌, ℕ, List, [], ◌∷◌, ◌++◌, Option, Some, None, Bool, true, false, append-nil, ap, inl, inr, refl, subst, sym}
+use Rattle.std.proofs.Common.{◌≡◌, ◌≢◌, ◌∙◌, ℕ, List, [], ◌∷◌, ◌++◌, Option, Some, None, true, append-nil, ap, refl, subst, sym}
 use Rattle.std.specs.Prelude.{IsTrue, MatchOption}
 use Rattle.std.proofs.lemmas.Bool.{false≢true}
 use Rattle.std.proofs.lemmas.List.{append_assoc}

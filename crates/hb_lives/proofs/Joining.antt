@@ -1,10 +1,10 @@
 -- All lists are told where each is.
-use Rattle.std.proofs.Common.{◌≡◌, ◌⊎◌, ◌∙◌, ℕ, ◌+◌, List, [], ◌∷◌, ◌++◌, Some, zero, suc, ap, arith, inl, inr, refl, subst, sym}
+use Rattle.std.proofs.Common.{◌≡◌, ◌∙◌, ℕ, ◌+◌, List, [], ◌∷◌, ◌++◌, Some, zero, suc, ap, arith, inl, inr, refl, subst, sym}
 use Rattle.std.specs.Prelude.{slice_get}
 use Rattle.hb_types.specs.Lists.{Each, Has, IsIn}
 use Rattle.hb_types.proofs.Ascending.{Each-append, Each-of, Has-back, Has-front}
 use Rattle.hb_model.specs.Items.{Item, calls_of}
-use Rattle.hb_law.specs.Transactions.{IsLoose, IsRightTxn, IsSomebodys, IsTxnOf, OutcomesTold, ShowsAnswered, TellsOutcome, Txn, begins_of, caller_of}
+use Rattle.hb_law.specs.Transactions.{IsRightTxn, IsSomebodys, IsTxnOf, OutcomesTold, ShowsAnswered, TellsOutcome, Txn, begins_of, caller_of}
 use Rattle.hb_lives.specs.Joining.{IsOperators, Listed, ListsAreTold, next, none}
 use Rattle.hb_lives.proofs.Currents.{begins_append}
 

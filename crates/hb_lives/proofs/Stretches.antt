@@ -14,7 +14,7 @@ use Rattle.hb_model.specs.Items.{Item, Doing, calls_of, sql, tending, turn}
 use Rattle.hb_model.specs.Outside.{is_outside}
 use Rattle.hb_law.specs.Callers.{ObeysFrom, is_begun}
 use Rattle.hb_law.specs.Standing.{is_aside}
-use Rattle.hb_law.specs.Transactions.{AllAsk, BeginsIt, IsLoose, IsOfStatements, IsOver, IsRightTxn, IsSomebodys, IsTxnOf, ShowsAnswered, TellsOutcome, TurnIsRight, Txn, begins_of, begun_in, is_idle, is_loose, is_told, own_items, tx_asked}
+use Rattle.hb_law.specs.Transactions.{AllAsk, BeginsIt, IsLoose, IsOfStatements, IsOver, IsSomebodys, IsTxnOf, ShowsAnswered, TellsOutcome, TurnIsRight, Txn, begins_of, begun_in, is_idle, is_loose, is_told, own_items, tx_asked}
 use Rattle.hb_runs.specs.Kinds.{is_begin}
 use Rattle.hb_itemlaws.specs.Owning.{AreBegins, AreOwn}
 use Rattle.hb_itemlaws.specs.Txns.{TellsOwn}

@@ -1,5 +1,5 @@
 -- Calls are as a system answers them, by lists that only grow.
-use Rattle.std.proofs.Common.{◌≡◌, ◌≢◌, ◌∙◌, ◌⊎◌, ℕ, List, [], ◌∷◌, ◌++◌, append-nil, ap, inl, inr, refl, subst, sym}
+use Rattle.std.proofs.Common.{◌≡◌, ◌∙◌, ℕ, List, [], ◌∷◌, ◌++◌, append-nil, ap, inl, inr, refl, subst, sym}
 use Rattle.std.proofs.lemmas.List.{append_assoc}
 use Rattle.std.specs.Prelude.{replicate}
 use Rattle.std.proofs.lemmas.Bool.Decides.{eqb_tells}
@@ -7,13 +7,11 @@ use Rattle.hb_types.specs.declared.answer.Answer.{Answer}
 use Rattle.hb_types.specs.declared.answer.Answer.TheVariants as answer
 use Rattle.hb_types.specs.declared.request.Request.{Request}
 use Rattle.hb_types.specs.declared.trail.Call.{Call}
-use Rattle.hb_types.specs.Lists.{Each}
 use Rattle.hb_types.proofs.Ascending.{Each-front}
 use Rattle.hb_runs.specs.Kinds.{IsOfNode}
 use Rattle.hb_runs.specs.ServerRuns.{Asked}
 use Rattle.hb_node.specs.Lists.{AreOfNode, Grows, Lists, OneMore, Stays, asked}
 use Rattle.hb_node.proofs.AnswerKinds.{call_kind}
-use Rattle.hb_law.specs.Answering.{IsOfSystem}
 use Rattle.hb_lives.specs.Systems.{AddedAreOfSystem, Adds, Longer, asks, others, stays}
 
 abbrev LongerBy : List Asked → List Asked → Type 0

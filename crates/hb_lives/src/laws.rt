@@ -1,5 +1,6 @@
 // The laws of a session's life.
 ghost use Rattle.hb_lives.specs.Joining.{ListsAreTold};
+ghost use Rattle.hb_lives.specs.Lives.{LivesAreStretches, LivesAreTold};
 ghost use Rattle.hb_lives.specs.Stretches.{StretchesAreTxns};
 ghost use Rattle.hb_lives.specs.Systems.{AddedAreOfSystem};
 
@@ -7,6 +8,16 @@ ghost use Rattle.hb_lives.specs.Systems.{AddedAreOfSystem};
 /// nothing of behind it; and each item is one's, or did nothing.
 pub fn stretches_are_txns()
     ensures { StretchesAreTxns }
+{}
+
+/// What a session asks and shows, transaction after transaction, is made of such stretches.
+pub fn lives_are_stretches()
+    ensures { LivesAreStretches }
+{}
+
+/// So its whole list is, from its first statement on.
+pub fn lives_are_told()
+    ensures { LivesAreTold }
 {}
 
 /// And its calls are as a system answers them, where what the nodes' lists hold in the end is.

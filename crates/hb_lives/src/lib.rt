@@ -3,4 +3,6 @@
 
 mod laws;
 
-pub use laws::{added_are_of_system, lists_are_told, stretches_are_txns};
+pub use laws::{
+    added_are_of_system, lists_are_told, lives_are_stretches, lives_are_told, stretches_are_txns,
+};
