@@ -1,0 +1,6 @@
+pub mod Systems
+pub mod Currents
+pub mod Stretches
+pub mod Placing
+pub mod Lives
+pub mod Joining

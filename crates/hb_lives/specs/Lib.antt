@@ -1,0 +1,4 @@
+pub mod Stretches
+pub mod Lives
+pub mod Systems
+pub mod Joining

@@ -1,0 +1,8 @@
+//! What a session asks and shows in its whole life, as the law of composition wants it.
+#![tactic(auto)]
+
+mod laws;
+
+pub use laws::{
+    added_are_of_system, lists_are_told, lives_are_stretches, lives_are_told, stretches_are_txns,
+};
