@@ -5,4 +5,5 @@ mod laws;
 
 pub use laws::{
     added_are_of_system, lists_are_told, lives_are_stretches, lives_are_told, stretches_are_txns,
+    unfinished_are_right,
 };
