@@ -4,3 +4,4 @@ pub mod Stretches
 pub mod Placing
 pub mod Lives
 pub mod Joining
+pub mod Unfinished

@@ -3,6 +3,7 @@ ghost use Rattle.hb_lives.specs.Joining.{ListsAreTold};
 ghost use Rattle.hb_lives.specs.Lives.{LivesAreStretches, LivesAreTold};
 ghost use Rattle.hb_lives.specs.Stretches.{StretchesAreTxns};
 ghost use Rattle.hb_lives.specs.Systems.{AddedAreOfSystem};
+ghost use Rattle.hb_lives.specs.Unfinished.{CutCommitsAreBare, UnfinishedAreRight};
 
 /// A session's list that is made of stretches is as the law of composition asks: each transaction is a stretch of it, right, and asked
 /// nothing of behind it; and each item is one's, or did nothing.
@@ -28,4 +29,15 @@ pub fn added_are_of_system()
 /// What the law of composition asks of all lists and transactions is so where it is so of the operator's list and of each session's.
 pub fn lists_are_told()
     ensures { ListsAreTold }
+{}
+
+/// A statement that is cut off has decided nothing and locked by the table of locks, also with the calls that begin its transaction before
+/// it, and calls of no transaction behind it.
+pub fn unfinished_are_right()
+    ensures { UnfinishedAreRight }
+{}
+
+/// And a COMMIT that is cut off has neither read nor written a row, nor locked.
+pub fn cut_commits_are_bare()
+    ensures { CutCommitsAreBare }
 {}
