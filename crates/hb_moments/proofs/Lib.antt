@@ -2,6 +2,7 @@ pub mod Answering
 pub mod AtCut
 pub mod AtMoment
 pub mod Beginnings
+pub mod Bound
 pub mod Came
 pub mod Cuts
 pub mod FirstLines

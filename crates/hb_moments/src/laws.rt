@@ -10,6 +10,7 @@ ghost use Rattle.hb_parts.specs.Moments.{
   HistoriesMerge,
   ListsKeepWithin,
   MomentsAreCallings,
+  PartsAreBound,
 };
 
 /// Where each node has what it had answered by a moment, perhaps with the call in progress, the history has such a cut.
@@ -40,6 +41,11 @@ pub fn lists_keep_within()
 /// What a node answers in its run is of its kind.
 pub fn answers_are_of_nodes()
     ensures { AnswersAreOfNodes }
+{}
+
+/// What is so of an item whatever it was answered is so of it as far as it came, where no lock was granted to it but in the whole.
+pub fn parts_are_bound()
+    ensures { PartsAreBound }
 {}
 
 /// A Begin that was asked last may have been answered NoMemory as well: the log is the same, and nothing is begun.

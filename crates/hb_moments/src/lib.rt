@@ -6,4 +6,5 @@ mod laws;
 pub use laws::{
     answers_are_of_nodes, begins_may_fail, cuts_are, cuts_are_histories, cuts_are_of_system,
     first_lines_in_order, has_lists, histories_merge, lists_keep_within, moments_are_callings,
+    parts_are_bound,
 };

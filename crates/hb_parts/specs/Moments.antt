@@ -1,5 +1,5 @@
 -- The law of moments in parts: the cut of a history, the callers' lists at it, and its first lines.
-use Rattle.std.specs.Prelude.{◌≡◌, ◌⊎◌, ℕ, ◌≤◌, List, [], ◌∷◌, ◌++◌, Some, flat_map, length, map, slice_get}
+use Rattle.std.specs.Prelude.{◌≡◌, ◌⊎◌, ℕ, ◌≤◌, true, List, [], ◌∷◌, ◌++◌, Some, flat_map, length, map, slice_get}
 use Rattle.std.specs.List.{AllZip}
 use Rattle.hb_types.specs.declared.answer.Answer.TheVariants as answer
 use Rattle.hb_types.specs.declared.change.LogItem.{LogItem}
@@ -10,6 +10,8 @@ use Rattle.hb_types.specs.declared.trail.TrailEntry.{TrailEntry}
 use Rattle.hb_law.specs.Composition.{AllObey, AllPlaced, CoordinatorRan, NodesRan, OperatorObeys, ShowsItems, Together, World, lists_of}
 use Rattle.hb_law.specs.Histories.{Event, History, Labelled, Merged, Shown, Trails, calls, lines_in, trail_in}
 use Rattle.hb_types.specs.Lists.{Each, IsIn}
+use Rattle.hb_model.specs.Answers.{is_grant}
+use Rattle.hb_model.specs.Asked.{AreWhereAsked}
 use Rattle.hb_model.specs.Items.{Item, calls_of}
 use Rattle.hb_disks.specs.Disks.{written}
 use Rattle.hb_disks.specs.Images.{Images, Logs}
@@ -18,7 +20,7 @@ use Rattle.hb_law.specs.Answering.{IsOfSystem}
 use Rattle.hb_law.specs.InTime.{InItsOrder, deeds_in, deeds_of}
 use Rattle.hb_law.specs.Moments.{IsCut, IsLeftRightly, IsPartOf, IsTrailAt, answered_as, with_first_lines}
 use Rattle.hb_law.specs.Ordered.{InOrder}
-use Rattle.hb_law.specs.Transactions.{ShowsAnswered, Txn}
+use Rattle.hb_law.specs.Transactions.{IsBoundItem, ShowsAnswered, Txn}
 use Rattle.hb_parts.specs.Callings.{Callings}
 
 abbrev pub LastAtNode : Trails → List Event → List Event → Type 0
@@ -91,6 +93,12 @@ abbrev pub AnswersAreOfNodes : Type 0
 AnswersAreOfNodes =
     (base logs : Logs) (trails : Trails) (trail : List Labelled) (l : Labelled) (node : ℕ) → NodesRan base logs trails → length base.servers ≤ 9
     → IsIn l trail → slice_get trails node ≡ Some trail → IsOfNode node l.entry.request l.entry.answer
+
+-- what is so of an item whatever it was answered is so of it as far as it came, where no lock was granted to it but in the whole
+abbrev pub PartsAreBound : Type 0
+PartsAreBound =
+    (whole part : Item) → IsPartOf whole part → AreWhereAsked whole.calls
+    → ((c : Call) → IsIn c part.calls → is_grant c.request c.answer ≡ true → IsIn c whole.calls) → IsBoundItem whole → IsBoundItem part
 
 -- a Begin that was asked last leaves the log that it leaves where memory was wanting
 abbrev pub BeginsMayFail : Type 0
