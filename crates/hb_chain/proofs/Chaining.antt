@@ -1,10 +1,11 @@
 -- Each decision is a step from the state before, from the base on.
 use Rattle.std.proofs.Common.{◌≡◌, ◌≢◌, ◌⊎◌, ◌∙◌, ℕ, ◌+◌, ◌-◌, List, [], ◌∷◌, ◌++◌, Some, ap, append_assoc, append-nil, arith, inl, inr, length, map, refl, subst, sym}
-use Rattle.std.specs.Prelude.{slice_get}
+use Rattle.std.specs.Prelude.{IsTrue, slice_get}
 use Rattle.hb_types.specs.Lists.{Each, IsIn}
+use Rattle.hb_types.specs.declared.trail.Call.{Call}
 use Rattle.hb_types.proofs.Ascending.{Has-front, in_Each}
 use Rattle.hb_model.specs.Items.{Doing, Item, calls_of, nothing_spent, sql, tending, turn}
-use Rattle.hb_model.specs.Answers.{AnswersOf, afters}
+use Rattle.hb_model.specs.Answers.{AnswersOf, HasAsked, afters, is_decide}
 use Rattle.hb_law.specs.RunAlone.{RunsAlone, StepsAs}
 use Rattle.hb_model.specs.State.{State}
 use Rattle.hb_model.specs.System.{Sys}
@@ -19,6 +20,8 @@ use Rattle.hb_parts.specs.Rows.{BaseStays, OneSystem}
 use Rattle.hb_parts.specs.Turning.{TurnsStep}
 use Rattle.hb_parts.specs.Txns.{AreDecidedCalls, Chain, DecidedRunThrough, HasItems, Itemed, NewHaveItems, Step}
 use Rattle.hb_parts.specs.Voting.{IsNewDecision, NewAreDecided, ServersRan}
+use Rattle.hb_loglaws.proofs.Members.{Has-in}
+use Rattle.hb_whose.proofs.Parts.{is_there}
 use Rattle.hb_whose.proofs.Trailing.{got}
 
 pub record Laws : Type 0 where
@@ -70,6 +73,11 @@ chain_more : (logs : Logs) (txns : List Txn) (front : List Decided) (s : State) 
 chain_more logs txns front s [] t d f c e k = moved logs txns f front d t s (e ∙ append-nil front) (sym c) k
 chain_more logs txns front s (x ∷ xs) t d f c e k =
     (c.0, chain_more logs txns (front ++ x ∷ []) c.0.after xs t d f c.1 (e ∙ sym (append_assoc front (x ∷ []) xs)) k)
+
+asks_decide : (d : Decided) (calls : List Call) → AreDecidedCalls d calls → HasAsked is_decide calls
+asks_decide d calls k =
+    subst (HasAsked is_decide) (sym k.parts)
+    (Has-in (λ c. IsTrue (is_decide c.request)) k.decide (k.front ++ k.decide ∷ k.back) (is_there k.decide k.front k.back) (ap is_decide k.asked))
 
 module _ (laws : Laws) (base logs : Logs) (trails : Trails) (lists : List (List Item)) (txns : List Txn) (it : Itemed base logs trails lists txns)
     (right : AreLogs logs) (fes : List Labelled)
@@ -123,7 +131,7 @@ module _ (laws : Laws) (base logs : Logs) (trails : Trails) (lists : List (List 
           let h = laws.items base logs trails lists txns fes (decided base ++ done) rest d it right at e nd fam in
           let r = in_Each (IsRightTxn (back_ends base)) h.0 txns h.1.known it.right in
           of_kind h.0 h.1 (in_Each (IsTxnOf lists) h.0 txns h.1.known it.txns_are.each) r.kinds
-          (r.right (family logs (decided base ++ done), s, subst (λ n. Sys n (family logs (decided base ++ done)) s) (sym same_ends) now, h.1.rows.answers))
+          (r.right (asks_decide d (calls_of h.0.items) h.1.calls) (family logs (decided base ++ done), s, subst (λ n. Sys n (family logs (decided base ++ done)) s) (sym same_ends) now, h.1.rows.answers))
 
   go : (done rest : List Decided) (s : State) → decided logs ≡ (decided base ++ done) ++ rest → Chain logs txns (decided base) start done s
       → StateAfter logs (decided base ++ done) s

@@ -134,7 +134,7 @@ pub txns_right : TxnsAreRight
 txns_right back_ends tx owner w ws calls replies planned n d own = record {
   own = own;
   right = record {
-    right = λ sys. right_kept back_ends _ d.items d.right;
+    right = λ decided sys. right_kept back_ends _ d.items d.right;
     bound = each_kept IsBoundItem d.items d.bound;
     kinds = inl (
       each_kept (λ i. IsOfStatements i.doing) d.items (all_statements (w ∷ ws) replies d.items d.each),
@@ -154,7 +154,7 @@ closed_txns_right back_ends tx place owner w ws calls replies why planned outsid
     record {
       own = own;
       right = record {
-        right = λ sys. right_kept back_ends _ items c.right;
+        right = λ decided sys. right_kept back_ends _ items c.right;
         bound = each_kept IsBoundItem items c.bound;
         kinds = inl (
           each_kept (λ i. IsOfStatements i.doing) items (Each-append (λ (i : Item). IsOfStatements i.doing) c.items closes (all_statements (w ∷ ws) replies c.items c.each) (tt, tt)),

@@ -284,7 +284,7 @@ faithful =
 right : IsRightTxn 1 began
 right =
     record {
-      right = λ o. ((false, faithful), tt);
+      right = λ d o. ((false, faithful), tt);
       bound = (
         (
           none_decides,

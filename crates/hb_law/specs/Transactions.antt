@@ -265,9 +265,10 @@ abbrev pub FirstBeginsWell : List Item → Type 0
 FirstBeginsWell [] = ⊥
 FirstBeginsWell (i ∷ is) = BeginsWell i.doing
 
--- A transaction is right: where its answers are a system's its statements do what they do; the rest is so whatever it is answered.
+-- A transaction is right: where it asked for its decision, and its answers are a system's, its statements do what they do; the rest is so
+-- whatever it is answered.
 pub record IsRightTxn (back_ends : ℕ) (t : Txn) : Type 0 where
-  pub right : AreOfSystem back_ends (calls_of t.items) → AreRight back_ends nothing_spent t.items
+  pub right : HasAsked is_decide (calls_of t.items) → AreOfSystem back_ends (calls_of t.items) → AreRight back_ends nothing_spent t.items
   pub bound : Each IsBoundItem t.items
   pub kinds : AreOfAKind t.items
   pub named : NamesItself t

@@ -557,7 +557,7 @@ faithful = plan_faithful create (plan_does create refl) 1 (fresh 1) made_by repl
 right : IsRightTxn 1 began
 right =
     record {
-      right = λ o. (faithful, (((refl, refl), inr (inl (refl, refl))), tt));
+      right = λ d o. (faithful, (((refl, refl), inr (inl (refl, refl))), tt));
       bound = (
         (none_decides, faithful.1.locks, (record { replied = refl; of_select = λ h. no h; undone = λ h. no h; sourced = faithful.1.sourced }, tt)),
         (((refl, refl), inr (inl (refl, refl))), tt),

@@ -238,7 +238,7 @@ began_here =
 right : IsRightTxn 1 began
 right =
     record {
-      right = λ o. (faithful, (shown_faithful, (((refl, refl), inr (inr (inl (refl, refl)))), tt)));
+      right = λ d o. (faithful, (shown_faithful, (((refl, refl), inr (inr (inl (refl, refl)))), tt)));
       bound = (
         (faithful.1.undecided, faithful.1.locks, (record { replied = refl; of_select = λ h. no h; undone = λ h. no h; sourced = faithful.1.sourced }, tt)),
         (
