@@ -3,4 +3,6 @@ pub mod AreaRun
 mod Permits
 mod RowCalls
 pub mod RowMade
+mod Spelled
 pub mod TableGiven
+pub mod RowWorld

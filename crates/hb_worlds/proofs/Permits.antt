@@ -1,6 +1,6 @@
 -- What permits a caller's requests, read off its calls.
-use Rattle.std.proofs.Common.{◌≡◌, ◌⊎◌, ℕ, ◌==◌, Bool, true, false, List, [], ◌∷◌, ap, sym, ◌∙◌, inl, inr}
-use Rattle.std.specs.Prelude.{IsTrue, not, ◌&&◌}
+use Rattle.std.proofs.Common.{◌≡◌, ℕ, ◌==◌, Bool, true, false, List, [], ◌∷◌, ap, sym, ◌∙◌, inl, inr}
+use Rattle.std.specs.Prelude.{not, ◌&&◌}
 use Rattle.std.specs.List.{list_all}
 use Rattle.std.proofs.lemmas.Bool.{and_parts, eq-eqb, false≢true}
 use Rattle.hb_types.specs.declared.request.Request.{Request}

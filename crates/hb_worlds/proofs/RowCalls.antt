@@ -1,16 +1,11 @@
 -- The calls of a session that inserts a row, selects it by its key and commits; its statements are faithful by the law of plans.
-use Rattle.std.proofs.Common.{◌≡◌, ◌≢◌, ℕ, zero, suc, ◌+◌, ◌*◌, ◌≤◌, ◌<◌, false, List, [], ◌∷◌, ◌++◌, length, Some, None, Ok, refl, subst, arith, lit≤, lit<, inl, inr, true, sym}
-use Rattle.std.specs.Prelude.{Bool, ℤ, pos, codes, slice_get, filter, flat_map, map, Option, Result}
-use Rattle.std.proofs.lemmas.Bool.{false≢true}
+use Rattle.std.proofs.Common.{◌≡◌, ℕ, false, List, [], ◌∷◌, ◌++◌, Some, None, Ok, refl, subst, arith, lit≤, true, sym}
+use Rattle.std.specs.Prelude.{Bool, ℤ, pos, codes, map, Option, Result}
 use Rattle.hb_types.specs.declared.answer.Answer.TheVariants as answer
 use Rattle.hb_types.specs.declared.change.Change.{Change}
-use Rattle.hb_types.specs.declared.change.LogItem.{LogItem}
-use Rattle.hb_types.specs.declared.change.LogItem.TheVariants as item
 use Rattle.hb_types.specs.declared.change.Stored.{Stored}
 use Rattle.hb_types.specs.declared.entry.Entry.TheVariants.{At}
-use Rattle.hb_types.specs.declared.lock.Held.{Held}
 use Rattle.hb_types.specs.declared.lock.Mode.TheVariants as mode
-use Rattle.hb_types.specs.declared.names.NodeName.{NodeName}
 use Rattle.hb_types.specs.declared.names.Number.{Number}
 use Rattle.hb_types.specs.declared.names.Tx.{Tx}
 use Rattle.hb_types.specs.declared.places.Path.{Path}
@@ -22,49 +17,32 @@ use Rattle.hb_types.specs.declared.trail.Call.{Call}
 use Rattle.hb_types.specs.declared.value.Value.{Value}
 use Rattle.hb_types.specs.declared.value.Value.TheVariants as value
 use Rattle.hb_types.specs.Groups.{group_of}
-use Rattle.hb_types.specs.Lists.{Each, IsIn}
-use Rattle.hb_types.specs.Numbers.{greatest}
-use Rattle.hb_types.specs.Put.{lookup, rows_under}
-use Rattle.hb_types.specs.Records.{body_bytes, record_length}
 use Rattle.hb_types.specs.Rows.{row_bytes}
 use Rattle.hb_model.specs.declared.reply.Reply.{Reply}
 use Rattle.hb_model.specs.declared.reply.Reply.TheVariants as reply
 use Rattle.hb_model.specs.declared.statement.Statement.{Statement}
 use Rattle.hb_model.specs.declared.statement.Statement.TheVariants as statement
 use Rattle.hb_model.specs.declared.table.Table.{Table}
-use Rattle.hb_model.specs.Answers.{HasAsked, call, is_decide}
+use Rattle.hb_model.specs.Answers.{call}
 use Rattle.hb_model.specs.Dictionary.{at_place, entry_row, table_row}
 use Rattle.hb_model.specs.Faithful.{Faithful}
 use Rattle.hb_model.specs.Items.{Item, calls_of, nothing_spent, sql, tending, spending}
-use Rattle.hb_model.specs.Spots.{dictionary_space, entries_space, entry_place, place_in, space_in, tables_space}
-use Rattle.hb_model.specs.State.{State}
-use Rattle.hb_disks.specs.Disks.{written}
-use Rattle.hb_disks.specs.Images.{Images, Logs, ReadAs}
-use Rattle.hb_disks.specs.LogPlaces.{end_behind}
-use Rattle.hb_disks.specs.Redo.{redo}
-use Rattle.hb_disks.specs.StandsFor.{HaveBases, StandsWith}
-use Rattle.hb_runs.specs.Coordinator as coordinator
-use Rattle.hb_runs.specs.Server as server
-use Rattle.hb_runs.specs.ServerEffects as effect
-use Rattle.hb_runs.specs.ServerRuns as runs
+use Rattle.hb_model.specs.Spots.{dictionary_space, entry_place, place_in, tables_space}
 use Rattle.hb_talk.specs.Moves.{fresh}
 use Rattle.hb_talk.specs.PlansDefine.{plan}
 use Rattle.hb_talk.specs.Talk.{Follows, Use, asked, ends, Planning, Talk, ◌>>=◌, ◌>>◌, pure, refuse}
 use Rattle.hb_plancalc.specs.Counted.{IsWithin}
-use Rattle.hb_faithful.specs.Planned.{FollowsPlan, Opens}
+use Rattle.hb_faithful.specs.Planned.{FollowsPlan}
 use Rattle.hb_faithful.proofs.Does.{plan_does}
 use Rattle.hb_faithful.proofs.Faithfuls.{plan_faithful}
-use Rattle.hb_law.specs.Answering.{IsOfSystem}
-use Rattle.hb_law.specs.Callers.{Obeys}
-use Rattle.hb_law.specs.Composition.{AllObey, AllPlaced, ArePlaced, CoordinatorRan, NodesRan, OperatorObeys, ServerRan, ShowsItems, Together, World, lines_by, shown_of}
-use Rattle.hb_law.specs.Histories.{Labelled, Merged, Shown, Trails, calls_at, entries_of, stands}
-use Rattle.hb_law.specs.Transactions.{AreTxns, IsRightTxn, IsSomebodys, IsTxnOf, OutcomesTold, ShowsAnswered, Txn}
-use Rattle.hb_worlds.proofs.AreaMade.{area, at_one, at_two, by, decision, elsewhere, end, n1, neither, no, nobody, none_is, not_mgr, of_mgr, reserved, s1, started, t1, vote}
+use Rattle.hb_law.specs.Histories.{Labelled, Shown, Trails}
+use Rattle.hb_law.specs.Transactions.{Txn}
+use Rattle.hb_worlds.proofs.AreaMade.{by, no, s1, started}
 use Rattle.hb_model.specs.declared.condition.Op.TheVariants as op
 use Rattle.hb_model.specs.declared.condition.Pred.{Pred, fold_out-Pred}
 use Rattle.hb_model.specs.declared.condition.Pred.TheVariants as pred
 use Rattle.hb_model.specs.declared.condition.Pred.TheVariants.{outs-Test}
-use Rattle.hb_model.specs.declared.expression.Expr.{Expr, fold_out-Expr}
+use Rattle.hb_model.specs.declared.expression.Expr.{fold_out-Expr}
 use Rattle.hb_model.specs.declared.expression.Expr.TheVariants as expr
 use Rattle.hb_model.specs.declared.expression.Expr.TheVariants.{outs-Name, outs-Int}
 use Rattle.hb_model.specs.declared.statement.What.TheVariants as what

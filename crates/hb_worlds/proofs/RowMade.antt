@@ -1,44 +1,24 @@
 -- A world with rows: a session inserts a row into a table that is there, selects it by its key and commits; ds, which it only read, and
 -- bes1 vote, fes1 decides, and both commit. Given are the changes by which the table was created, as they stand in the log of ds; no
 -- entry of a group but that of the row's own is looked at.
-use Rattle.std.proofs.Common.{◌≡◌, ◌≢◌, ℕ, zero, suc, ◌+◌, ◌*◌, ◌≤◌, ◌<◌, false, List, [], ◌∷◌, ◌++◌, length, Some, None, Ok, refl, subst, arith, lit≤, lit<, inl, inr}
-use Rattle.std.specs.Prelude.{Bool, ℤ, pos, codes, slice_get, filter, flat_map, map}
+use Rattle.std.proofs.Common.{◌≡◌, ℕ, zero, suc, ◌+◌, ◌*◌, ◌≤◌, List, [], ◌∷◌, ◌++◌, Some, refl, subst, arith, lit≤, lit<, inl, inr}
+use Rattle.std.specs.Prelude.{slice_get, filter, flat_map}
 use Rattle.std.proofs.lemmas.Bool.{false≢true}
-use Rattle.hb_types.specs.declared.answer.Answer.TheVariants as answer
 use Rattle.hb_types.specs.declared.change.Change.{Change}
 use Rattle.hb_types.specs.declared.change.LogItem.{LogItem}
 use Rattle.hb_types.specs.declared.change.LogItem.TheVariants as item
-use Rattle.hb_types.specs.declared.change.Stored.{Stored}
-use Rattle.hb_types.specs.declared.entry.Entry.TheVariants.{At}
 use Rattle.hb_types.specs.declared.lock.Held.{Held}
 use Rattle.hb_types.specs.declared.lock.Mode.TheVariants as mode
 use Rattle.hb_types.specs.declared.names.NodeName.{NodeName}
-use Rattle.hb_types.specs.declared.names.Number.{Number}
-use Rattle.hb_types.specs.declared.names.Tx.{Tx}
-use Rattle.hb_types.specs.declared.places.Path.{Path}
 use Rattle.hb_types.specs.declared.places.Path.TheVariants as path
-use Rattle.hb_types.specs.declared.places.Place.{Place}
-use Rattle.hb_types.specs.declared.request.Request.TheVariants as request
-use Rattle.hb_types.specs.declared.request.Vote.{Vote}
 use Rattle.hb_types.specs.declared.trail.Call.{Call}
-use Rattle.hb_types.specs.declared.value.Value.{Value}
-use Rattle.hb_types.specs.declared.value.Value.TheVariants as value
 use Rattle.hb_types.specs.Groups.{group_of}
-use Rattle.hb_types.specs.Lists.{Each, IsIn}
+use Rattle.hb_types.specs.Lists.{Each}
 use Rattle.hb_types.specs.Numbers.{greatest}
 use Rattle.hb_types.specs.Put.{lookup, rows_under}
-use Rattle.hb_types.specs.Records.{body_bytes, record_length}
-use Rattle.hb_types.specs.Rows.{row_bytes}
-use Rattle.hb_model.specs.declared.reply.Reply.{Reply}
-use Rattle.hb_model.specs.declared.reply.Reply.TheVariants as reply
-use Rattle.hb_model.specs.declared.statement.Statement.{Statement}
-use Rattle.hb_model.specs.declared.statement.Statement.TheVariants as statement
-use Rattle.hb_model.specs.declared.table.Table.{Table}
-use Rattle.hb_model.specs.Answers.{HasAsked, call, is_decide}
-use Rattle.hb_model.specs.Dictionary.{at_place, entry_row, table_row}
-use Rattle.hb_model.specs.Faithful.{Faithful}
-use Rattle.hb_model.specs.Items.{Item, calls_of, nothing_spent, sql, tending}
-use Rattle.hb_model.specs.Spots.{dictionary_space, entries_space, entry_place, place_in, space_in, tables_space}
+use Rattle.hb_types.specs.Records.{record_length}
+use Rattle.hb_model.specs.Items.{Item, tending}
+use Rattle.hb_model.specs.Spots.{dictionary_space, entries_space, space_in}
 use Rattle.hb_model.specs.State.{State}
 use Rattle.hb_disks.specs.Disks.{written}
 use Rattle.hb_disks.specs.Images.{Images, Logs, ReadAs}
@@ -49,21 +29,14 @@ use Rattle.hb_runs.specs.Coordinator as coordinator
 use Rattle.hb_runs.specs.Server as server
 use Rattle.hb_runs.specs.ServerEffects as effect
 use Rattle.hb_runs.specs.ServerRuns as runs
-use Rattle.hb_talk.specs.Moves.{fresh}
-use Rattle.hb_talk.specs.PlansDefine.{plan}
-use Rattle.hb_talk.specs.Talk.{Follows, Use, asked, ends}
-use Rattle.hb_plancalc.specs.Counted.{IsWithin}
-use Rattle.hb_faithful.specs.Planned.{FollowsPlan, Opens}
-use Rattle.hb_faithful.proofs.Does.{plan_does}
-use Rattle.hb_faithful.proofs.Faithfuls.{plan_faithful}
 use Rattle.hb_law.specs.Answering.{IsOfSystem}
 use Rattle.hb_law.specs.Callers.{Obeys}
 use Rattle.hb_law.specs.Composition.{AllObey, AllPlaced, ArePlaced, CoordinatorRan, NodesRan, OperatorObeys, ServerRan, ShowsItems, Together, World, lines_by, shown_of}
-use Rattle.hb_law.specs.Histories.{Labelled, Merged, Shown, Trails, calls_at, entries_of, stands}
-use Rattle.hb_law.specs.Transactions.{AreTxns, IsRightTxn, IsSomebodys, IsTxnOf, OutcomesTold, ShowsAnswered, Txn}
-use Rattle.hb_worlds.proofs.AreaMade.{area, at_one, at_two, by, decision, elsewhere, end, n1, neither, no, nobody, none_is, not_mgr, of_mgr, reserved, s1, started, t1, vote}
+use Rattle.hb_law.specs.Histories.{Labelled, Merged, calls_at, entries_of, stands}
+use Rattle.hb_law.specs.Transactions.{AreTxns, IsRightTxn, IsSomebodys, IsTxnOf, OutcomesTold, ShowsAnswered}
+use Rattle.hb_worlds.proofs.AreaMade.{at_one, at_two, decision, elsewhere, end, n1, no, nobody, none_is, not_mgr, of_mgr, reserved, started, vote}
 use Rattle.hb_worlds.proofs.Permits.{may_decide_by, may_enlist_by, open_by}
-use Rattle.hb_worlds.proofs.RowCalls.{t2, t3, n2, n3, table, table_stored, values, key, entry, spot, entry_bytes, made, tables, votes, begins, enters, enlists_ds, locks_tables, scans_tables, locks_entry, reads_entry, enlists_bes, locks_key, looks, inserts, locks_row, reads_row, votes_ds, votes_bes, decides, commits_ds, commits_bes, leaves, opening, planned, made_by, shown_by, committed_by, all_asked, insert, of_key, select, the_row, committed, opens, makes, shows, closes, all_lists, all_calls, fes_trail, ds_trail, bes_trail, all_trails, began, all_lines, in_the_end, faithful, shown_faithful}
+use Rattle.hb_worlds.proofs.RowCalls.{t2, t3, n2, n3, table_stored, key, entry, spot, entry_bytes, made, tables, votes, begins, enters, enlists_ds, locks_tables, scans_tables, locks_entry, reads_entry, enlists_bes, locks_key, looks, inserts, locks_row, reads_row, votes_ds, votes_bes, decides, commits_ds, commits_bes, leaves, opening, planned, all_asked, opens, makes, shows, closes, all_lists, all_calls, fes_trail, ds_trail, bes_trail, all_trails, began, all_lines, faithful, shown_faithful}
 
 -- ---- the logs
 

@@ -1,9 +1,8 @@
 -- What a world with rows is given of its table: disks that stand for a state with it tell it, and the rows that its creation puts are
 -- those of such a state.
-use Rattle.std.proofs.Common.{◌≡◌, ℕ, zero, suc, ◌+◌, ◌≤◌, ◌<◌, List, [], ◌∷◌, length, map, get_or, Some, None, refl, sym, subst, ap, ◌∙◌, arith, lit≤, lit<, inl, inr}
+use Rattle.std.proofs.Common.{◌≡◌, ℕ, zero, suc, ◌+◌, ◌≤◌, ◌<◌, List, [], ◌∷◌, length, map, get_or, Some, None, refl, sym, subst, ap, ◌∙◌, arith, lit≤, lit<, inl}
 use Rattle.std.specs.Prelude.{codes, option_map, slice_get}
 use Rattle.std.specs.List.{AllZip}
-use Rattle.std.proofs.lemmas.List.Elements.{recursion_from_All}
 use Rattle.hb_types.specs.declared.change.Change.{Change}
 use Rattle.hb_types.specs.declared.change.LogItem.{LogItem}
 use Rattle.hb_types.specs.declared.change.LogItem.TheVariants as item
@@ -13,7 +12,7 @@ use Rattle.hb_types.specs.declared.entry.Entry.{Entry}
 use Rattle.hb_types.specs.declared.entry.Entry.TheVariants.{At, Moving}
 use Rattle.hb_types.specs.declared.lock.Held.{Held}
 use Rattle.hb_types.specs.declared.places.Place.{Place}
-use Rattle.hb_types.specs.Groups.{first_entries, group_of, groups}
+use Rattle.hb_types.specs.Groups.{group_of, groups}
 use Rattle.hb_types.specs.Lists.{Each}
 use Rattle.hb_types.specs.Logs.{RecordsFrom, readable}
 use Rattle.hb_types.specs.Places.{node_of_area}
@@ -22,7 +21,6 @@ use Rattle.hb_types.specs.Records.{HasRecord, body_bytes, record_length}
 use Rattle.hb_types.specs.Rows.{row_bytes}
 use Rattle.hb_types.proofs.Ascending.{Each-append}
 use Rattle.hb_groups.specs.Counts.{IsEvenShare, IsPlaced, count_at}
-use Rattle.hb_groups.proofs.Shares.{first-even, first-full, first-placed}
 use Rattle.hb_model.specs.declared.table.Table.{Table}
 use Rattle.hb_model.specs.Answers.{put_at, rows_of}
 use Rattle.hb_model.specs.Dictionary.{area_row, at_place, entry_row, entry_rows, member_row, member_rows}
@@ -40,7 +38,7 @@ use Rattle.hb_talk.specs.PlansDefine.{new_rows, put_row}
 use Rattle.hb_planlaws.proofs.Scans.{tables_scanned}
 use Rattle.hb_planlaws.proofs.Told.{contained}
 use Rattle.hb_planwrites.proofs.Closing.{written}
-use Rattle.hb_plantables.proofs.NewSpread.{all_differ, each_of_all, is_spread, settled_at}
+use Rattle.hb_plantables.proofs.NewSpread.{is_spread, settled_at}
 use Rattle.hb_plantables.proofs.NextSystem.{sys_after}
 use Rattle.hb_plantables.proofs.Puts.{each_numbered, put_written}
 use Rattle.hb_worlds.proofs.AreaMade.{area, end, n1, vote}
@@ -74,12 +72,15 @@ records_fit : (image : List ℕ) (from : ℕ) (placed : List Placed) → Records
 records_fit image from [] r = tt
 records_fit image from (p ∷ ps) r = (r.1.has_record, records_fit image (from + record_length p.item) ps r.2)
 
-first_log : (servers : List ServerImages) (log : List LogItem) (logs : List (List LogItem)) → AllZip (λ (s : ServerImages) l. HasItems s.log l) servers (log ∷ logs)
+pub items_fit : (image : List ℕ) (items : List LogItem) → HasItems image items → Each (λ (i : LogItem). HasRecord i) items
+items_fit image items h = subst (Each (λ (i : LogItem). HasRecord i)) h.2 (records_fit (readable image) 0 h.0 h.1)
+
+pub first_log : (servers : List ServerImages) (log : List LogItem) (logs : List (List LogItem)) → AllZip (λ (s : ServerImages) l. HasItems s.log l) servers (log ∷ logs)
     → Each (λ (i : LogItem). HasRecord i) log
 first_log [] log logs h = absurd h
-first_log (s ∷ ss) log logs h = subst (Each (λ (i : LogItem). HasRecord i)) h.0.2 (records_fit (readable s.log) 0 h.0.0 h.0.1)
+first_log (s ∷ ss) log logs h = items_fit s.log log h.0
 
-short_by : (n : ℕ) → n ≤ 8388608 → 0 + record_length vote + record_length end + (5 + n) + record_length (item.Commit t2 n2) ≤ 16777216
+pub short_by : (n : ℕ) → n ≤ 8388608 → 0 + record_length vote + record_length end + (5 + n) + record_length (item.Commit t2 n2) ≤ 16777216
 short_by n le =
     let a : record_length vote ≤ 1000 = lit≤ tt in
     let b : record_length end ≤ 1000 = lit≤ tt in
