@@ -80,3 +80,31 @@ rolls_refusal node (answer.Cycle edges) = refl
 rolls_refusal node answer.NumbersSpent = refl
 rolls_refusal node answer.NoMemory = refl
 rolls_refusal node a = refl
+
+-- ---- sets of nodes
+
+all_step : (p : ℕ → Bool) (n : ℕ) (ns : List ℕ) → list_all p (filter p ns) ≡ true → (b : Bool) → p n ≡ b → list_all p (filter p (n ∷ ns)) ≡ true
+all_step p n ns rest true e = rw (e, e) rest
+all_step p n ns rest false e = rw e rest
+
+all_of : (p : ℕ → Bool) (ns : List ℕ) → list_all p (filter p ns) ≡ true
+all_of p [] = refl
+all_of p (n ∷ ns) = all_step p n ns (all_of p ns) (p n) refl
+
+-- a set's nodes are in the set
+pub each_in : (set : ℕ) → Each (λ n. has_node set n ≡ true) (nodes_in set)
+each_in set = each_of (has_node set) (nodes_in set) (all_of (has_node set) (range_with_len 0 11))
+
+-- the nodes that an answer leaves are among those that were used
+pub among : (old new : ℕ) (rolls : Bool) → keeps_nodes old new rolls ≡ true → Each (λ n. has_node old n ≡ true) (nodes_in new)
+among old new rolls k = elim (kept old new rolls k) [
+  | inl e ↦ subst (λ x. Each (λ n. has_node old n ≡ true) (nodes_in x)) (sym e) (each_in old)
+  | inr h ↦ h.1
+]
+
+-- they are the same where nothing is rolled back
+pub still : (old new : ℕ) (rolls : Bool) → rolls ≡ false → keeps_nodes old new rolls ≡ true → new ≡ old
+still old new rolls is k = elim (kept old new rolls k) [
+  | inl e ↦ e
+  | inr h ↦ absurd (false≢true (sym is ∙ h.0))
+]

@@ -1,15 +1,16 @@
 // An access: what it asks next, and what it makes of the answer.
-ghost use Rattle.std.specs.Prelude.{◌≡◌, true};
+ghost use Rattle.std.specs.Prelude.{◌≡◌, true, IfSome, IsTrue, is_some};
 ghost use Rattle.hb_types.specs.declared.change.Change.{Change as Written};
 ghost use Rattle.hb_model.specs.NodeSets.{has_node};
 ghost use Rattle.hb_types.specs.Numbers.{IsNumber};
 ghost use Rattle.hb_types.specs.Records.{IsChange};
-ghost use Rattle.hb_access.specs.Accesses.{is_asking, is_waiting, now_talks, use_of, locked, written, NextIs, Hears, Brings, AsksSoundly, used_after, at_branch, keeps_nodes, rolls, IsServer};
+ghost use Rattle.hb_access.specs.Accesses.{is_asking, is_waiting, now_talks, use_of, locked, under, written, NextIs, Hears, Brings, AsksSoundly, used_after, at_branch, keeps_nodes, rolls, IsServer};
 ghost use Rattle.hb_access.specs.declared.access.Stage.TheVariants as stage;
 
 use crate::goal::{Goal, Got};
 use crate::usage::{Gate, Usage};
 use hb_model::Reply;
+use hb_nodeset::has;
 use hb_types::{Answer, Change, Left, NodeName, Path, Request};
 use std::marker::Model;
 
@@ -80,6 +81,21 @@ impl Access {
     {
         let stage = Stage::Lock(goal);
         Access { usage, stage }
+    }
+
+    /// What lies under a goal's path, once its lock is held; there is none where no branch is.
+    pub fn read(usage: Usage, goal: Goal) -> Option<Access>
+        requires { IsServer goal.node.0 }
+        ensures usage { IfSome result (λ a. a.usage ≡ usage) }
+        ensures asking { IfSome result (λ a. is_asking a.stage ≡ true) }
+        ensures talk { IfSome result (λ a. now_talks a ≡ under goal.node.0 goal.path (use_of usage)) }
+        ensures there { has_node usage.used.0 goal.node.0 ≡ true → IsTrue (is_some result) }
+    {
+        if !has(usage.used, goal.node) {
+            return None;
+        }
+        let stage = Stage::Fetch(goal);
+        Some(Access { usage, stage })
     }
 
     /// A write of a change.

@@ -1,1 +1,3 @@
 mod Ballots
+pub mod Branches
+pub mod NoLocks

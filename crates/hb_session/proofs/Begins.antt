@@ -28,7 +28,8 @@ use Rattle.hb_types.specs.declared.request.Request.{Request}
 use Rattle.hb_session.specs.declared.stage.Stage.{Stage}
 use Rattle.hb_session.specs.Sitting.{Sitting, Starts, counted, finishing, in_transaction, is_busy, is_ending, is_refused, owner, planned, stands_at}
 use Rattle.hb_session.specs.Steps.{AsksAt, CarriesOn, Gives, GivesAt, GivesTalk, IsSameUse, Makes, LeavesAs, RollsBack, SameSession, StaysAt, Stepped, Steps, Undoes, is_no_memory, nothing_used}
-use Rattle.hb_session.proofs.Moving.{each_in, stays_same, undone}
+use Rattle.hb_access.proofs.Nodes.{each_in}
+use Rattle.hb_session.proofs.Moving.{stays_same, undone}
 use Rattle.hb_node.specs.Lists.{Lists}
 use Rattle.hb_session.specs.declared.stage.Line.{Line}
 

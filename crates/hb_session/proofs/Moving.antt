@@ -1,18 +1,15 @@
 -- Which nodes a transaction uses where its statement goes on or is refused, whatever the answers tell.
 use Rattle.std.proofs.Common.{◌≡◌, inl, inr, ℕ, ◌==◌, Bool, true, false, List, [], ◌∷◌, refl, ap, sym, ◌∙◌, subst}
 use Rattle.std.specs.Prelude.{◌&&◌, not}
-use Rattle.std.specs.List.{list_all, filter, range_with_len}
-use Rattle.std.proofs.lemmas.Bool.{false≢true}
 use Rattle.hb_types.specs.declared.names.NodeName.{NodeName}
 use Rattle.hb_types.specs.declared.request.Request.{Request}
 use Rattle.hb_types.specs.declared.request.Request.TheVariants as request
 use Rattle.hb_types.specs.Lists.{Each}
 use Rattle.hb_model.specs.NodeSets.{has_node, nodes_in}
 use Rattle.hb_model.specs.declared.reply.Reply.{Reply}
-use Rattle.hb_access.specs.Accesses.{at_branch, keeps_nodes, use_of, used_after}
+use Rattle.hb_access.specs.Accesses.{at_branch, use_of, used_after}
 use Rattle.hb_access.specs.declared.access.Next.TheVariants as next
 use Rattle.hb_access.specs.declared.usage.Usage.{Usage}
-use Rattle.hb_access.proofs.Nodes.{each_of, kept}
 use Rattle.hb_plan.specs.Planned.{Planned}
 use Rattle.hb_wait.specs.declared.pending.Pending.TheVariants as pending
 use Rattle.hb_session.specs.declared.stage.Asking.{Asking}
@@ -20,34 +17,6 @@ use Rattle.hb_session.specs.declared.stage.Stage.{Stage}
 use Rattle.hb_session.specs.declared.stage.Stage.TheVariants as stage
 use Rattle.hb_session.specs.Sitting.{Sitting, is_ending}
 use Rattle.hb_session.specs.Steps.{AsksAt, IsSameUse, Moves, RollsBack, StaysAt, Undoes}
-
--- ---- sets of nodes
-
-all_step : (p : ℕ → Bool) (n : ℕ) (ns : List ℕ) → list_all p (filter p ns) ≡ true → (b : Bool) → p n ≡ b → list_all p (filter p (n ∷ ns)) ≡ true
-all_step p n ns rest true e = rw (e, e) rest
-all_step p n ns rest false e = rw e rest
-
-all_of : (p : ℕ → Bool) (ns : List ℕ) → list_all p (filter p ns) ≡ true
-all_of p [] = refl
-all_of p (n ∷ ns) = all_step p n ns (all_of p ns) (p n) refl
-
--- a set's nodes are in the set
-pub each_in : (set : ℕ) → Each (λ n. has_node set n ≡ true) (nodes_in set)
-each_in set = each_of (has_node set) (nodes_in set) (all_of (has_node set) (range_with_len 0 11))
-
--- the nodes that an answer leaves are among those that were used
-pub among : (old new : ℕ) (rolls : Bool) → keeps_nodes old new rolls ≡ true → Each (λ n. has_node old n ≡ true) (nodes_in new)
-among old new rolls k = elim (kept old new rolls k) [
-  | inl e ↦ subst (λ x. Each (λ n. has_node old n ≡ true) (nodes_in x)) (sym e) (each_in old)
-  | inr h ↦ h.1
-]
-
--- they are the same where nothing is rolled back
-pub still : (old new : ℕ) (rolls : Bool) → rolls ≡ false → keeps_nodes old new rolls ≡ true → new ≡ old
-still old new rolls is k = elim (kept old new rolls k) [
-  | inl e ↦ e
-  | inr h ↦ absurd (false≢true (sym is ∙ h.0))
-]
 
 -- a refusal before anything is asked leaves the nodes as they are
 pub used_refusal : (used : ℕ) (r : Reply) → used_after used (next.Refused r) ≡ used

@@ -15,7 +15,8 @@ use Rattle.hb_session.specs.declared.session.Progress.TheVariants as progress
 use Rattle.hb_session.specs.declared.stage.Stage.TheVariants as stage
 use Rattle.hb_session.specs.Sitting.{Sitting, is_busy, is_ending, planned}
 use Rattle.hb_session.specs.Steps.{CarriesOn, CarriesOnIf, Leads, Moves, RollsBack, RunsOut, SameSession}
-use Rattle.hb_session.proofs.Moving.{among, each_in, moves_same, still, undone}
+use Rattle.hb_access.proofs.Nodes.{among, each_in, still}
+use Rattle.hb_session.proofs.Moving.{moves_same, undone}
 
 -- ---- what it comes to
 

@@ -1,5 +1,5 @@
 // How many bytes changes take.
-ghost use Rattle.std.specs.Prelude.{◌≡◌, ◌+◌, nat_lt, true, false, length, MatchOption};
+ghost use Rattle.std.specs.Prelude.{◌≡◌, ◌+◌, nat_lt, true, false, length, MatchOption, ◌∷◌, []};
 ghost use Rattle.hb_types.specs.Records.{change_bytes};
 ghost use Rattle.hb_model.specs.Does.{most_bytes};
 ghost use Rattle.hb_talk.specs.Plans.{sizes};
@@ -14,7 +14,7 @@ const MOST_BYTES: u64 = 1_048_576;
 
 // The bytes with those of a change, unless they are too many.
 fn with_size(bytes: u64, change: &Change) -> Option<u64>
-    ensures { MatchOption result (nat_lt most_bytes (bytes + length (change_bytes change.now)) ≡ true) (λ after. after ≡ bytes + length (change_bytes change.now)) }
+    ensures { MatchOption result (nat_lt most_bytes (bytes + length (change_bytes change.now)) ≡ true) (λ after. (nat_lt most_bytes (bytes + length (change_bytes change.now)) ≡ false) × (after ≡ bytes + length (change_bytes change.now))) }
 {
     let size = change_size(change);
     if bytes > MOST_BYTES || size > MOST_BYTES - bytes {
@@ -35,6 +35,14 @@ fn with_sizes(before: u64, changes: &[Change]) -> Option<u64>
         return None;
     }
     Some(bytes)
+}
+
+/// Counts a change, unless it is too much for one transaction.
+pub fn counted_one(usage: Usage, change: &Change) -> Option<Usage>
+    ensures { Counts usage (change.now ∷ []) result }
+{
+    let bytes = with_size(usage.bytes, change)?;
+    Some(Usage { bytes, ..usage })
 }
 
 /// Counts changes, unless they are too much for one transaction.

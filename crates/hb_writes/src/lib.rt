@@ -4,4 +4,5 @@
 mod counting;
 mod writing;
 
+pub use counting::counted_one;
 pub use writing::{Begun, Taken, Writing, node_of};

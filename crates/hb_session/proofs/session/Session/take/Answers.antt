@@ -11,7 +11,7 @@ use Rattle.hb_wait.specs.Courses.{free}
 use Rattle.hb_session.specs.Sitting.{planned, IsUsed}
 use Rattle.hb_session.specs.Steps.{CarriesOnIf, IsSameUse}
 use Rattle.hb_session.specs.declared.session.Progress.TheVariants as progress
-use Rattle.hb_session.proofs.Moving.{still}
+use Rattle.hb_access.proofs.Nodes.{still}
 use Rattle.hb_session.proofs.Plans.{carried_if, replied_if}
 use Rattle.hb_session.proofs.Refusing.{Refuses, refused_if}
 use Rattle.hb_session.proofs.session.Session.take.Goals as goal
