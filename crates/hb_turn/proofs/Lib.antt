@@ -1,0 +1,5 @@
+mod Keeping
+mod Talks
+mod Branches
+mod Ends
+mod Calls
