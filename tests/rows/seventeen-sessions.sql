@@ -17,3 +17,4 @@ s16: COMMIT
 s17: COMMIT
 STEP s17 1
 GIVE s18: COMMIT
+s19: pdrbal -k share -t T -c 1 -n 1

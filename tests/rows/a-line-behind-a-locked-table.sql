@@ -1,0 +1,18 @@
+-- a lock of the table lets the batch in progress end, and stops the finish behind it
+s1: CREATE RDAREA A1 ON bes1
+s1: CREATE RDAREA A2 ON bes2
+s1: CREATE TABLE T (K INTEGER, V VARCHAR(20)) HASH HASHA BY K IN (A1, A2)
+s1: COMMIT
+s1: INSERT INTO T VALUES (4, 'd')
+s1: COMMIT
+s1: CREATE RDAREA A3 ON bes1
+s1: ALTER TABLE T ADD RDAREA A3
+s1: COMMIT
+GIVE p1: pdrbal -k share -t T -c 5 -n 400
+STEP p1 2278
+s1: ALTER TABLE T ADD RDAREA A3
+s2: LOCK TABLE T IN SHARE MODE
+STEP p1 9
+s1: CREATE RDAREA Z ON bes2
+s1: SELECT * FROM T
+STEP p1 100000
