@@ -2,12 +2,10 @@
 use Rattle.std.specs.Prelude.{◌≡◌, ◌≢◌, ℕ, ◌==◌, ◌<◌, ◌≤◌, Bool, true, false, not, if◌then◌else◌, List, None, Result, Ok, Err}
 use Rattle.hb_model.specs.declared.line.Line.{Line}
 use Rattle.hb_model.specs.declared.line.Work.{Work}
-use Rattle.hb_model.specs.declared.line.Work.TheVariants as work
 use Rattle.hb_model.specs.declared.reply.Reply.{Reply}
 use Rattle.hb_model.specs.declared.reply.Reply.TheVariants as reply
 use Rattle.hb_model.specs.declared.script.Item.{Item}
 use Rattle.hb_model.specs.declared.script.Item.TheVariants as item
-use Rattle.hb_model.specs.declared.statement.Statement.{Statement}
 use Rattle.hb_lines.specs.declared.said.Said.{Said}
 use Rattle.hb_lines.specs.declared.said.Said.TheVariants as said
 use Rattle.hb_stepper.specs.declared.fault.StepFault.{StepFault}
@@ -23,21 +21,21 @@ use Rattle.hb_serve.specs.declared.own.Own.TheVariants as own
 
 -- ---- giving
 
--- whether a statement was taken, where memory wasn't wanting
+-- whether what is given was taken, where memory wasn't wanting
 abbrev pub IsTaken : Bool → Result (Unit {0}) StepFault → Type 0
 IsTaken taken (Ok x) = taken ≡ true
 IsTaken taken (Err fault.NoMemory) = ⊥
 IsTaken taken (Err f) = taken ≡ false
 
--- a statement that goes on runs to its end or to a wait
+-- a statement or a line of pdrbal that goes on runs to its end or to a wait
 abbrev pub GoesOn : Bool → List ℕ → Running → Running → Type 0
 GoesOn true name mid new = Finished mid name new
 GoesOn false name mid new = new ≡ mid
 
--- the statement was taken, and goes on where it isn't held; or it was refused by a line of the session
-pub data Gave (old : Running) (name : List ℕ) (st : Statement) (held : Bool) : Running → Type 0 where
-  taken : (mid new : Running) → Given old name st held (Ok tt) mid → GoesOn (not held) name mid new → Gave old name st held new
-  refused : (f : StepFault) (new : Running) → f ≢ fault.NoMemory → Given old name st held (Err f) new → Gave old name st held new
+-- what is given was taken, and goes on where it isn't held; or it was refused by a line of the session
+pub data Gave (old : Running) (name : List ℕ) (w : Work) (held : Bool) : Running → Type 0 where
+  taken : (mid new : Running) → Given old name w held (Ok tt) mid → GoesOn (not held) name mid new → Gave old name w held new
+  refused : (f : StepFault) (new : Running) → f ≢ fault.NoMemory → Given old name w held (Err f) new → Gave old name w held new
 
 -- ---- STEP
 
@@ -49,7 +47,7 @@ most_sessions = 16
 abbrev pub made_reply : ℕ → Reply
 made_reply count = if count == 0 then reply.NothingGiven else reply.Stepped count
 
--- FULL for a name behind the first 16; NOTHING GIVEN where no statement of the session is in progress; else how many steps were made
+-- FULL for a name behind the first 16; NOTHING GIVEN where nothing of the session is in progress; else how many steps were made
 pub data Steps (old : Running) (name : List ℕ) (most : ℕ) : Own → Running → Type 0 where
   full : (place : ℕ) (new : Running) → Named old name place new → most_sessions ≤ place → Steps old name most (own.Line (line_of place None reply.Full)) new
   nothing_given : (new : Running) (none : Advanced old name most 0 new) → none.place < most_sessions → seat_is busy none.mid.seats none.place ≡ false
@@ -59,16 +57,11 @@ pub data Steps (old : Running) (name : List ℕ) (most : ℕ) : Own → Running 
 
 -- ---- lines
 
--- a statement is given; PDRBAL isn't built, and does nothing
-abbrev pub DoesWork : List ℕ → Work → Bool → Running → Own → Running → Type 0
-DoesWork name (work.Sql st) held old o new = (o ≡ own.Nothing) × Gave old name st held new
-DoesWork name (work.Rebalance table rows turns) held old o new = (o ≡ own.NotBuilt) × (new ≡ old)
-
--- blank lines and BARRIER do nothing, and neither do the lines of nodes, which aren't built
+-- blank lines and BARRIER do nothing, and neither do the lines of nodes, which aren't built; statements and lines of pdrbal are given
 abbrev pub DoesItem : Item → Running → Own → Running → Type 0
 DoesItem item.Blank old o new = (o ≡ own.Nothing) × (new ≡ old)
 DoesItem item.Barrier old o new = (o ≡ own.Nothing) × (new ≡ old)
-DoesItem (item.Give name w held) old o new = DoesWork name w held old o new
+DoesItem (item.Give name w held) old o new = (o ≡ own.Nothing) × Gave old name w held new
 DoesItem (item.Step name most) old o new = Steps old name most o new
 DoesItem (item.Stop node) old o new = (o ≡ own.NotBuilt) × (new ≡ old)
 DoesItem (item.Arm node area k) old o new = (o ≡ own.NotBuilt) × (new ≡ old)

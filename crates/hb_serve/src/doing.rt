@@ -1,21 +1,20 @@
 // What one line of a script does.
 ghost use Rattle.std.specs.Prelude.{◌≡◌, IfOk};
-ghost use Rattle.hb_model.specs.Plain.{IsPlain};
 ghost use Rattle.hb_node.specs.Lists.{Onward};
 ghost use Rattle.hb_sqlparse.specs.PlainLines.{IsPlainItem};
 ghost use Rattle.hb_lines.specs.Saying.{IsPlainSaid};
 ghost use Rattle.hb_stepper.specs.Adding.{Adds};
 ghost use Rattle.hb_stepper.specs.Running.{running};
-ghost use Rattle.hb_serve.specs.Doing.{Does, DoesItem, DoesWork, syntax_line as line_of_syntax};
+ghost use Rattle.hb_serve.specs.Doing.{Does, DoesItem, syntax_line as line_of_syntax};
 
 use crate::giving::give;
 use crate::own::Own;
 use crate::stepping::step;
 use hb_lines::Said;
-use hb_model::{Item, Line, Reply, Work};
+use hb_model::{Item, Line, Reply};
 use hb_node::Nodes;
 use hb_stepper::Sessions;
-use hb_types::{NoMemory, Text};
+use hb_types::NoMemory;
 
 /// Does what a line of a script says, and returns the line that it has of its own: the caller shows it behind the lines that the
 /// sessions have now.
@@ -52,31 +51,11 @@ fn do_item<N: Nodes>(sessions: &mut Sessions, nodes: &mut N, item: Item) -> Resu
             session,
             work,
             held,
-        } => do_work(sessions, nodes, &session, work, held),
+        } => give(sessions, nodes, &session, work, held),
         Item::Step { session, most } => step(sessions, nodes, &session, most),
         Item::Stop { .. } | Item::Arm { .. } | Item::Start { .. } | Item::Sync { .. } => {
             Ok(Own::NotBuilt)
         }
-    }
-}
-
-#[tactic(auto, using(crate::proofs::Growing::adds_nothing, crate::proofs::Growing::stays))]
-fn do_work<N: Nodes>(
-    sessions: &mut Sessions,
-    nodes: &mut N,
-    name: &Text,
-    work: Work,
-    held: bool,
-) -> Result<Own, NoMemory>
-    requires plain { IsPlain work }
-    ensures done { IfOk result (λ own. DoesWork name.now work held (running sessions.old (N.lists nodes.old)) own (running sessions.new (N.lists nodes.new))) }
-    ensures adds { Adds sessions.old.lines.items sessions.new.lines.items }
-    ensures names { Adds sessions.old.names.items sessions.new.names.items }
-    ensures goes { Onward N.goes nodes.old nodes.new }
-{
-    match work {
-        Work::Sql(statement) => give(sessions, nodes, name, statement, held),
-        Work::Rebalance { .. } => Ok(Own::NotBuilt),
     }
 }
 

@@ -2,10 +2,8 @@
 use Rattle.std.proofs.Common.{◌≡◌, ℕ, List, [], ◌∷◌, ◌++◌, length, sym, ap, refl, ◌∙◌, inl, inr}
 use Rattle.std.specs.Prelude.{Bool, Some, Result, Ok, Err}
 use Rattle.std.proofs.lemmas.List.{append-nil, append_assoc, length-set}
-use Rattle.hb_model.specs.declared.statement.Statement.{Statement}
 use Rattle.hb_model.specs.declared.line.Work.{Work}
-use Rattle.hb_model.specs.declared.line.Work.TheVariants as work
-use Rattle.hb_session.specs.declared.session.Progress.{Progress}
+use Rattle.hb_caller.specs.declared.caller.Progress.{Progress}
 use Rattle.hb_stepper.specs.declared.fault.StepFault.{StepFault}
 use Rattle.hb_stepper.specs.declared.fault.StepFault.TheVariants as fault
 use Rattle.hb_stepper.specs.Adding.{Adds}
@@ -49,7 +47,7 @@ names_named a b name place (inr h) = (name ∷ [], h.names)
 
 -- ---- giving
 
--- of each course of giving a statement, lines and names are added
+-- of each course of giving, lines and names are added
 pub record Grows (a b : Running) : Type 0 where
   pub lines : Adds a.lines b.lines
   pub names : Adds a.names b.names
@@ -76,13 +74,14 @@ pub grows_part : (a b : Running) (name : List ℕ) → NamedInPart a name b → 
 grows_part a b name (inl h) = grows_same a b h
 grows_part a b name (inr h) = grows_named a b name h.0 h.1
 
-pub grows_given : (a b : Running) (name : List ℕ) (st : Statement) (held : Bool) (r : Result (Unit {0}) StepFault) → Given a name st held r b → Grows a b
-grows_given a b name st held (Ok x) h =
+pub grows_given : (a b : Running) (name : List ℕ) (w : Work) (held : Bool) (r : Result (Unit {0}) StepFault) → Given a name w held r b → Grows a b
+grows_given a b name w held (Ok x) h =
     grows_on a h.1 b (grows_named a h.1 name h.0 h.2) (record {
       lines = (given_line h.0 held, ap (λ (r : Running). r.lines) h.3.1.becomes);
       names = adds_same h.1.names b.names (ap (λ (r : Running). r.names) h.3.1.becomes);
     })
-grows_given a b name st held (Err fault.NoMemory) h = grows_part a b name h
-grows_given a b name st held (Err fault.Full) h = grows_on a h.1 b (grows_named a h.1 name h.0 h.2) (grows_refused h.1 b h.0 (work.Sql st) fault.Full h.3.1)
-grows_given a b name st held (Err fault.Busy) h = grows_on a h.1 b (grows_named a h.1 name h.0 h.2) (grows_refused h.1 b h.0 (work.Sql st) fault.Busy h.3.1)
-grows_given a b name st held (Err fault.NoTransaction) h = grows_on a h.1 b (grows_named a h.1 name h.0 h.2) (grows_refused h.1 b h.0 (work.Sql st) fault.NoTransaction h.3.1)
+grows_given a b name w held (Err fault.NoMemory) h = grows_part a b name h
+grows_given a b name w held (Err fault.Full) h = grows_on a h.1 b (grows_named a h.1 name h.0 h.2) (grows_refused h.1 b h.0 w fault.Full h.3.1)
+grows_given a b name w held (Err fault.Busy) h = grows_on a h.1 b (grows_named a h.1 name h.0 h.2) (grows_refused h.1 b h.0 w fault.Busy h.3.1)
+grows_given a b name w held (Err fault.InTransaction) h = grows_on a h.1 b (grows_named a h.1 name h.0 h.2) (grows_refused h.1 b h.0 w fault.InTransaction h.3.1)
+grows_given a b name w held (Err fault.NoTransaction) h = grows_on a h.1 b (grows_named a h.1 name h.0 h.2) (grows_refused h.1 b h.0 w fault.NoTransaction h.3.1)

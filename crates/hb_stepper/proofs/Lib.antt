@@ -1,4 +1,5 @@
 mod Adding
+mod Backing
 mod LastTurns
 mod Others
 mod Refusals

@@ -2,8 +2,8 @@
 use Rattle.std.proofs.Common.{◌≡◌, ◌≢◌, ◌⊎◌, ℕ, Bool, true, false, not, ◌&&◌, ◌||◌, List, ap, ◌∙◌, sym, subst, refl, inl, inr}
 use Rattle.std.specs.Prelude.{Option, Some, None, slice_get}
 use Rattle.std.proofs.lemmas.Bool.{cases_eq, false≢true}
-use Rattle.hb_session.specs.Sitting.{in_transaction}
-use Rattle.hb_session.specs.declared.session.Progress.{Progress}
+use Rattle.hb_caller.specs.Calling.{in_transaction}
+use Rattle.hb_caller.specs.declared.caller.Progress.{Progress}
 use Rattle.hb_stepper.specs.declared.seat.Seat.{Seat}
 use Rattle.hb_stepper.specs.Finishing.{RanOut}
 use Rattle.hb_stepper.specs.Running.{Running, seat_is, is_seat, busy, waits, going, asked, open_now}
@@ -38,9 +38,9 @@ shut false b c h = refl
 
 is_shut : (o : Option Seat) → is_seat open_now o ≡ false → is_seat going o ≡ false
 is_shut None h = refl
-is_shut (Some s) h = shut (busy s) (not (waits s)) (in_transaction s.session.stage) h
+is_shut (Some s) h = shut (busy s) (not (waits s)) (in_transaction s.caller) h
 
--- one with neither a transaction nor a statement can't go on
+-- one with neither a transaction nor anything in progress can't go on
 pub over_stops : (seats : List Seat) (place : ℕ) → seat_is open_now seats place ≡ false → seat_is going seats place ≡ false
 over_stops seats place h = is_shut (slice_get seats place) h
 

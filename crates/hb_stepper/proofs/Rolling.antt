@@ -1,123 +1,89 @@
--- A rolling back, request by request, up to its reply.
-use Rattle.std.proofs.Common.{◌≡◌, ◌⊎◌, ℕ, Bool, true, false, List, [], ◌∷◌, ◌++◌, ap, ◌∙◌, sym, subst, refl, inl, inr}
-use Rattle.std.specs.Prelude.{Option, Some, None, ⊤}
-use Rattle.std.proofs.lemmas.Bool.{false≢true}
-use Rattle.std.proofs.lemmas.Option.{none-some, same_Some}
-use Rattle.hb_types.specs.declared.answer.Answer.{Answer}
-use Rattle.hb_types.specs.declared.names.NodeName.{NodeName}
-use Rattle.hb_types.specs.declared.request.Request.{Request}
-use Rattle.hb_types.specs.declared.request.Request.TheVariants as request
-use Rattle.hb_model.specs.NodeSets.{nodes_in}
+-- A caller that rolls back, request by request, up to its reply.
+use Rattle.std.proofs.Common.{◌≡◌, ◌⊎◌, true, false, List, [], ◌∷◌, ap, ◌∙◌, sym, refl, inl, inr}
+use Rattle.std.specs.Prelude.{Option, Some, None}
 use Rattle.hb_model.specs.declared.reply.Reply.{Reply}
 use Rattle.hb_model.specs.declared.reply.Reply.TheVariants as reply
 use Rattle.hb_model.specs.declared.statement.Statement.{Statement}
-use Rattle.hb_node.specs.Lists.{Lists}
-use Rattle.hb_talk.specs.Ends.{rollbacks, rolling_back}
-use Rattle.hb_talk.specs.Talk.{Talk, says, asks, Use}
+use Rattle.hb_talk.specs.Talk.{Talk, says, Use}
 use Rattle.hb_access.specs.Accesses.{use_of}
-use Rattle.hb_wait.specs.Courses.{Course, free, next_in, by_heard, after_call}
-use Rattle.hb_wait.specs.Waiting.{after_request, heard}
-use Rattle.hb_wait.specs.declared.pending.Heard.{Heard}
-use Rattle.hb_wait.specs.declared.pending.Heard.TheVariants as heard_as
-use Rattle.hb_wait.specs.declared.pending.Pending.{Pending}
-use Rattle.hb_wait.specs.declared.pending.Pending.TheVariants as pending
-use Rattle.hb_session.specs.declared.session.Progress.{Progress}
-use Rattle.hb_session.specs.declared.session.Progress.TheVariants as progress
+use Rattle.hb_wait.specs.Courses.{free, next_in, after_call}
 use Rattle.hb_session.specs.declared.stage.Stage.{Stage}
 use Rattle.hb_session.specs.declared.stage.Stage.TheVariants as stage
-use Rattle.hb_session.specs.Sitting.{Sitting, finishing, is_ending, is_refused, stands}
-use Rattle.hb_session.specs.Steps.{Abandons, Closes, EndsOn, GoesOn, IsToldBy, LeavesAs, RollsBack, RunsOutAt, Stepped, said}
+use Rattle.hb_session.specs.Sitting.{Sitting, stands as session_stands}
+use Rattle.hb_session.specs.Steps.{Abandons as SessionAbandons, Closes as SessionCloses, RollsBack}
+use Rattle.hb_mover.specs.Moving.{Moving, stands as line_stands}
+use Rattle.hb_caller.specs.declared.caller.Progress.{Progress}
+use Rattle.hb_caller.specs.declared.caller.Progress.TheVariants as progress
+use Rattle.hb_caller.specs.Calling.{Calling, busy, by_asked, ending, in_transaction, stands, waits}
+use Rattle.hb_caller.specs.Steps.{Abandons, AbandonsBy, Closes, EndsBy, EndsOn, LeavesAs, said}
+use Rattle.hb_stepper.proofs.Backing.{Backs, GoesBack, backs_rolling, goes_back, back_ends}
 
--- ---- a talk of no Lock that says a reply in the end
-
-abbrev pub is_lock : Request → Bool
-is_lock (request.Lock tx path mode) = true
-is_lock _ = false
-
-abbrev pub Backs : Reply → Talk Reply → Type 0
-Backs r (says x) = x ≡ r
-Backs r (asks node q k) = (is_lock q ≡ false) × ((a : Answer) → Backs r (k a))
-
-backs_rollbacks : (u : Use) (prepared : ℕ) (ns : List ℕ) (left : ℕ) (r : Reply) → Backs r (rollbacks u prepared ns left r)
-backs_rollbacks u prepared [] left r = (refl, λ a. refl)
-backs_rollbacks u prepared (n ∷ ns) left r = (refl, λ a. backs_rollbacks u prepared ns _ r)
-
-pub backs_rolling : (u : Use) (r : Reply) → Backs r (rolling_back u 0 r)
-backs_rolling u r = (refl, λ a. backs_rollbacks u 0 (nodes_in u.used) 0 r)
-
-heard_plain : (node : NodeName) (q : Request) (a : Answer) → is_lock q ≡ false → after_request node q a ≡ heard_as.Answered a
-heard_plain node (request.Lock tx path mode) a h = absurd (false≢true (sym h))
-heard_plain node q a h = refl
-
--- what is said where a course is over
-abbrev said_last : Course (List Reply) → Option Reply
-said_last (free (says (r ∷ []))) = Some r
-said_last _ = None
-
-ended_talk : (t : Talk Reply) (r x : Reply) → Backs r t → free (finishing t) ≡ free (says (x ∷ [])) → x ≡ r
-ended_talk (says y) r x b e = sym (same_Some y x (ap said_last e)) ∙ b
-ended_talk (asks node q k) r x b e = absurd (none-some x (ap said_last e))
-
--- ---- a session that rolls back
-
-pub record Rolling (r : Reply) (s : Sitting) : Type 0 where
-  pub ending : is_ending s.stage ≡ true
-  pub talk : Talk Reply
+pub record Rolling (r : Reply) (c : Calling) : Type 0 where
+  pub ending_now : ending c ≡ true
+  pub busy_now : busy c ≡ true
+  pub waits_not : waits c ≡ false
+  pub talk : Talk (List Reply)
   pub backs : Backs r talk
-  pub course : (sts : List Statement) → stands s sts ≡ free (finishing talk)
+  pub course : (sts : List Statement) → stands c sts ≡ free talk
 
-ending_asks : (g : Stage) → is_ending g ≡ true → is_refused g ≡ false
-ending_asks (stage.Refused u r) h = absurd (false≢true h)
-ending_asks _ h = refl
+-- neither a transaction nor anything in progress
+pub record IsOver (c : Calling) : Type 0 where
+  pub idle : busy c ≡ false
+  pub none : in_transaction c ≡ false
 
-ending_told : (g : Stage) (x : Heard) → is_ending g ≡ true → IsToldBy g x
-ending_told (stage.Ends e) x h = tt
-ending_told _ x h = absurd (false≢true h)
-
-ending_has_room : (g : Stage) (new : Sitting) (shows : Progress) → is_ending g ≡ true → RunsOutAt g new shows → ⊥
-ending_has_room (stage.Ends e) new shows h out = out
-ending_has_room _ new shows h out = absurd (false≢true h)
-
-abbrev pub Onward : Reply → Progress → Sitting → Type 0
-Onward r shows new = ((shows ≡ progress.More) × Rolling r new) ⊎ ((shows ≡ progress.Ended r) × (new.stage ≡ stage.Idle))
+-- it goes on, or it ended with its reply
+abbrev pub Onward : Reply → Progress → Calling → Type 0
+Onward r shows new = ((shows ≡ progress.More) × Rolling r new) ⊎ ((shows ≡ progress.Ended r) × IsOver new)
 
 -- where the answer led, by what was shown
-led : (r : Reply) (new : Sitting) (shows : Progress) (t : Talk Reply) → Backs r t → ((sts : List Statement) → free (finishing t) ≡ said shows (stands new sts))
-    → EndsOn shows new.stage → LeavesAs shows new.stage → Onward r shows new
-led r new progress.More t b leads ending leaves = inl (refl, record { ending = ending; talk = t; backs = b; course = λ sts. sym (leads sts) })
-led r new (progress.Waits edges) t b leads ending leaves = absurd ending
-led r new (progress.Shown x) t b leads ending leaves = absurd ending
-led r new (progress.Ended x) t b leads ending leaves = inr (ap (λ (y : Reply). progress.Ended y) (ended_talk t r x b (leads [])), leaves)
+led : (r : Reply) (new : Calling) (shows : Progress) (t : Talk (List Reply)) → Backs r t → ((sts : List Statement) → free t ≡ said shows (stands new sts))
+    → EndsOn shows new → LeavesAs shows new → Onward r shows new
+led r new progress.More t b leads ends leaves = inl (refl, record { ending_now = ends.0; busy_now = ends.1; waits_not = ends.2; talk = t; backs = b; course = λ sts. sym (leads sts) })
+led r new (progress.Waits edges) t b leads ends leaves = absurd ends
+led r new (progress.Told x) t b leads ends leaves = absurd ends
+led r new (progress.Shown x) t b leads ends leaves = absurd ends
+led r new (progress.Ended x) t b leads ends leaves = inr (ap (λ (y : Reply). progress.Ended y) (back_ends r t x b (leads [])), record { idle = leaves.0; none = leaves.1 })
 
-asked_on : (r : Reply) (old new : Sitting) (p : Pending) (a : Answer) (shows : Progress) (t : Talk Reply) → Backs r t → ((sts : List Statement) → stands old sts ≡ free (finishing t))
-    → ((sts : List Statement) → next_in (stands old sts) ≡ Some p) → GoesOn old new a shows → EndsOn shows new.stage → LeavesAs shows new.stage → Onward r shows new
-asked_on r old new p a shows (says x) b course next goes ending leaves = absurd (none-some p (sym (ap next_in (course [])) ∙ next []))
-asked_on r old new p a shows (asks node q k) b course next goes ending leaves =
-    led r new shows (k a) (b.1 a)
-    (λ sts. sym (ap (by_heard (λ x. finishing (k x))) (heard_plain (record { 0 = node }) q a b.0)) ∙ sym (ap (λ c. after_call c a) (course sts)) ∙ goes sts) ending leaves
-
-answered : (old new : Sitting) (a : Answer) (shows : Progress) → is_ending old.stage ≡ true → GoesOn old new a shows ⊎ RunsOutAt old.stage new shows → GoesOn old new a shows
-answered old new a shows h (inl goes) = goes
-answered old new a shows h (inr out) = absurd (ending_has_room old.stage new shows h out)
-
--- one step more: it goes on, or it ended with its reply
-pub rolls_on : (r : Reply) (old new : Sitting) (before after : Lists) (shows : Progress) → Rolling r old → Stepped old new before after shows
-    → (is_ending old.stage ≡ true → EndsOn shows new.stage) → Onward r shows new
-rolls_on r old new before after shows h step ending =
-    let s = step.steps (ending_asks old.stage h.ending) in
-    let m = s.4 in
-    asked_on r old new s.0 s.1 shows h.talk h.backs h.course m.next
-    (answered old new s.1 shows h.ending (m.goes (ending_told old.stage (heard s.0 s.1) h.ending))) (ending h.ending) step.leaves
+-- one step more
+pub rolls_on : (r : Reply) (old new : Calling) (shows : Progress) → Rolling r old → EndsBy old new shows → EndsOn shows new → LeavesAs shows new → Onward r shows new
+rolls_on r old new shows h by ends leaves =
+    let back : GoesBack r h.talk by.answer = goes_back r h.talk by.asked by.answer h.backs (sym (ap next_in (h.course [])) ∙ by.next []) in
+    led r new shows back.rest back.backs (λ sts. sym back.after ∙ sym (ap (λ c. after_call c by.answer) (h.course sts)) ∙ by.goes sts) ends leaves
 
 -- ---- given up
 
-pub abandoned : (g : Stage) (new : Sitting) → Abandons g new → (u : Use) × RollsBack u reply.RolledBackEnd new
+abandoned : (g : Stage) (new : Sitting) → SessionAbandons g new → (u : Use) × RollsBack u reply.RolledBackEnd new
 abandoned (stage.Asks a) new h = (use_of a.plan.usage, h)
 abandoned _ new h = absurd h
 
-pub closed : (g : Stage) (new : Sitting) → Closes g new → (u : Use) × RollsBack u reply.RolledBackEnd new
+closed : (g : Stage) (new : Sitting) → SessionCloses g new → (u : Use) × RollsBack u reply.RolledBackEnd new
 closed (stage.Open u) new h = (use_of u, h)
 closed _ new h = absurd h
 
-pub rolling : (u : Use) (new : Sitting) → is_ending new.stage ≡ true → RollsBack u reply.RolledBackEnd new → Rolling reply.RolledBackEnd new
-rolling u new ending h = record { ending = ending; talk = rolling_back u 0 reply.RolledBackEnd; backs = backs_rolling u reply.RolledBackEnd; course = h }
+-- what is left of one that is given up
+pub record LeftOver (c : Calling) : Type 0 where
+  pub talk : Talk (List Reply)
+  pub backs : Backs reply.RolledBackEnd talk
+  pub course : (sts : List Statement) → stands c sts ≡ free talk
+
+of_session : (c : Calling) → c.mover ≡ None → (u : Use) → RollsBack u reply.RolledBackEnd c.session → LeftOver c
+of_session c none u rolls = record {
+  talk = _;
+  backs = backs_rolling reply.RolledBackEnd reply.RolledBackEnd (λ (r : Reply). says (r ∷ [])) refl u;
+  course = λ sts. ap (λ (m : Option Moving). by_asked line_stands (session_stands c.session sts) m) none ∙ rolls sts;
+}
+
+left_over : (m : Option Moving) (s : Sitting) (new : Calling) → AbandonsBy m s new → LeftOver new
+left_over None s new h = let by = abandoned s.stage new.session h.1 in of_session new h.0 by.0 by.1
+left_over (Some m) s new h = record {
+  talk = _;
+  backs = backs_rolling reply.RolledBackEnd reply.RolledBack (λ (r : Reply). says (reply.RolledBackEnd ∷ [])) refl h.gives_up.0;
+  course = λ sts. ap (λ (c : Calling). stands c sts) h.becomes ∙ h.gives_up.1;
+}
+
+closed_over : (old new : Calling) → Closes old new → LeftOver new
+closed_over old new h = let by = closed old.session.stage new.session h.closed in of_session new h.still by.0 by.1
+
+pub given_over : (old new : Calling) → Abandons old new ⊎ Closes old new → LeftOver new
+given_over old new (inl h) = left_over old.mover old.session new h
+given_over old new (inr h) = closed_over old new h

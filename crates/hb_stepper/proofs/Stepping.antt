@@ -2,7 +2,7 @@
 use Rattle.std.proofs.Common.{◌≡◌, ℕ, Bool, true, false, ◌&&◌, List, sym, subst, refl}
 use Rattle.std.specs.Prelude.{Option, Some, None, Result, Ok, Err, OnErr, slice_get}
 use Rattle.std.proofs.lemmas.Bool.{false≢true}
-use Rattle.hb_session.specs.declared.session.Progress.{Progress}
+use Rattle.hb_caller.specs.declared.caller.Progress.{Progress}
 use Rattle.hb_node.specs.Lists.{Onward, here, onward}
 use Rattle.hb_stepper.specs.Running.{Running, seat_is, is_seat, busy, going}
 use Rattle.hb_stepper.specs.Steps.{OneStep, Made, at_start, made, Ran, not_yet, ran, Asked, nobody, another, IsReady, Round, Rounds, no_round, round}
@@ -41,7 +41,7 @@ made_rounds a b (round mid to h last) = made_on a mid to (made_rounds a mid h) (
 pub made_same : (a b c : Running) → Made a b → c ≡ b → Made a c
 made_same a b c h e = let P : Running → Type 0 = λ r. Made a r in subst P (sym e) h
 
--- ---- a session that can go on has a statement in progress
+-- ---- a session that can go on has something in progress
 
 both_first : (a b : Bool) → (a && b) ≡ true → a ≡ true
 both_first true b h = refl

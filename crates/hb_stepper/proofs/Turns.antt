@@ -5,7 +5,7 @@ use Rattle.std.proofs.lemmas.Bool.{cases_eq, false≢true}
 use Rattle.std.proofs.lemmas.List.{append-nil, take_more, take_all, take-append-drop}
 use Rattle.std.proofs.lemmas.List.Elements.{filter-append}
 use Rattle.std.proofs.Math.Seq.{drop-cons}
-use Rattle.hb_session.specs.declared.session.Progress.{Progress}
+use Rattle.hb_caller.specs.declared.caller.Progress.{Progress}
 use Rattle.hb_stepper.specs.declared.seat.Seat.{Seat}
 use Rattle.hb_stepper.specs.Running.{Running, seat_is, is_seat, busy, waits, asked, askable}
 use Rattle.hb_stepper.specs.Waiters.{waiters_after}

@@ -4,8 +4,8 @@ use Rattle.hb_stepper.specs.Names.{Named}
 use Rattle.hb_stepper.specs.Running.{Running, seat_is, busy, going}
 use Rattle.hb_stepper.specs.Steps.{Made, Ran}
 
--- The session of this name made so many steps, and fewer only where its statement ended or waits. It makes none exactly where no
--- statement is in progress.
+-- The session of this name made so many steps, and fewer only where its statement or line ended or waits. It makes none exactly where
+-- nothing is in progress.
 pub record Advanced (old : Running) (name : List ℕ) (most count : ℕ) (new : Running) : Type 0 where
   pub place : ℕ
   pub mid : Running

@@ -1,10 +1,10 @@
--- A statement that runs to its end or to a wait.
+-- A statement or a line of pdrbal that runs to its end or to a wait.
 use Rattle.std.specs.Prelude.{◌≡◌, ℕ, false, List}
 use Rattle.hb_stepper.specs.Names.{Named}
 use Rattle.hb_stepper.specs.Running.{Running, seat_is, going}
 use Rattle.hb_stepper.specs.Steps.{Ran}
 
--- the session at a place ran until its statement couldn't go on; nothing was done where it couldn't
+-- the session at a place ran until it couldn't go on; nothing was done where it couldn't
 pub record RanOut (old : Running) (place : ℕ) (new : Running) : Type 0 where
   pub count : ℕ
   pub ran : Ran place old count new

@@ -1,6 +1,6 @@
 -- The names of sessions, at their places by first appearance.
 use Rattle.std.specs.Prelude.{◌≡◌, ◌≢◌, ◌⊎◌, ℕ, ◌<◌, ◌≤◌, false, List, [], ◌∷◌, ◌++◌, length, Some, None, slice_get}
-use Rattle.hb_session.specs.Sitting.{in_transaction, is_busy}
+use Rattle.hb_caller.specs.Calling.{in_transaction, busy}
 use Rattle.hb_stepper.specs.declared.seat.Seat.{Seat}
 use Rattle.hb_stepper.specs.Running.{Running}
 
@@ -14,9 +14,9 @@ IsNew names name = (k : ℕ) → slice_get names k ≢ Some name
 
 -- a session that was given nothing yet
 pub record IsFresh (place : ℕ) (seat : Seat) : Type 0 where
-  pub index : seat.session.index ≡ place
-  pub idle : is_busy seat.session.stage ≡ false
-  pub none : in_transaction seat.session.stage ≡ false
+  pub index : seat.caller.session.index ≡ place
+  pub idle : busy seat.caller ≡ false
+  pub none : in_transaction seat.caller ≡ false
   pub work : seat.work ≡ None
   pub held : seat.held ≡ false
 

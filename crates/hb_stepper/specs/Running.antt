@@ -2,7 +2,7 @@
 use Rattle.std.specs.Prelude.{ℕ, Bool, false, not, ◌&&◌, ◌||◌, List, filter, Option, Some, None, slice_get}
 use Rattle.hb_model.specs.declared.line.Line.{Line}
 use Rattle.hb_node.specs.Lists.{Lists}
-use Rattle.hb_session.specs.Sitting.{in_transaction, is_busy, is_waiting}
+use Rattle.hb_caller.specs.Calling.{in_transaction, busy as is_busy, waits as is_waiting}
 use Rattle.hb_stepper.specs.declared.seat.Seat.{Seat}
 use Rattle.hb_stepper.specs.declared.sessions.Sessions.{Sessions}
 
@@ -26,14 +26,14 @@ is_seat test (Some seat) = test seat
 abbrev pub seat_is : (Seat → Bool) → List Seat → ℕ → Bool
 seat_is test seats place = is_seat test (slice_get seats place)
 
--- a statement is in progress
+-- a statement or a line of pdrbal is in progress
 abbrev pub busy : Seat → Bool
-busy seat = is_busy seat.session.stage
+busy seat = is_busy seat.caller
 
 abbrev pub waits : Seat → Bool
-waits seat = is_waiting seat.session.stage
+waits seat = is_waiting seat.caller
 
--- its statement can go on
+-- it can go on
 abbrev pub going : Seat → Bool
 going seat = busy seat && not (waits seat)
 
@@ -41,9 +41,9 @@ going seat = busy seat && not (waits seat)
 abbrev pub asked : Seat → Bool
 asked seat = busy seat && waits seat && not seat.held
 
--- it has a transaction or a statement
+-- it has a transaction, or something in progress
 abbrev pub open_now : Seat → Bool
-open_now seat = busy seat || in_transaction seat.session.stage
+open_now seat = busy seat || in_transaction seat.caller
 
 -- the sessions that are asked, in the order in which their waits began
 abbrev pub askable : Running → List ℕ

@@ -5,24 +5,25 @@ use Rattle.hb_model.specs.declared.line.Work.{Work}
 use Rattle.hb_model.specs.declared.reply.Reply.{Reply}
 use Rattle.hb_model.specs.declared.reply.Reply.TheVariants as reply
 use Rattle.hb_node.specs.Lists.{Lists}
-use Rattle.hb_session.specs.declared.session.Progress.{Progress}
-use Rattle.hb_session.specs.declared.session.Progress.TheVariants as progress
-use Rattle.hb_session.specs.Sitting.{is_ending}
-use Rattle.hb_session.specs.Steps.{Stepped, EndsOn}
+use Rattle.hb_caller.specs.declared.caller.Progress.{Progress}
+use Rattle.hb_caller.specs.declared.caller.Progress.TheVariants as progress
+use Rattle.hb_caller.specs.Calling.{ending as is_ending}
+use Rattle.hb_caller.specs.Steps.{Stepped, EndsBy, EndsOn}
 use Rattle.hb_stepper.specs.declared.seat.Seat.{Seat}
 use Rattle.hb_stepper.specs.Waiters.{waiters_after}
 use Rattle.hb_stepper.specs.Running.{Running, seat_is, asked, busy, going, waits, askable}
 
 -- ---- one step
 
--- a line of the session at a place, with the statement that it answers
+-- a line of the session at a place, with what it answers
 abbrev pub line_of : ℕ → Option Work → Reply → Line
 line_of place work r = record { session = Some place; work = work; reply = r }
 
--- a wait is shown as it begins, and answers nothing
+-- a wait is shown as it begins, and what a line of pdrbal tells before its end; both answer nothing
 abbrev pub lines_of : ℕ → Option Work → Progress → List Line
 lines_of place work progress.More = []
 lines_of place work (progress.Waits edges) = line_of place None (reply.Waits edges) ∷ []
+lines_of place work (progress.Told r) = line_of place None r ∷ []
 lines_of place work (progress.Shown r) = line_of place work r ∷ []
 lines_of place work (progress.Ended r) = line_of place work r ∷ []
 
@@ -31,10 +32,11 @@ unanswered work (progress.Shown r) = None
 unanswered work (progress.Ended r) = None
 unanswered work _ = work
 
--- a session made one step: what its contract says, and what is shown answers what was given to it
+-- a caller made one step: what its contract says, and what is shown answers what was given to it
 pub record SeatSteps (old new : Seat) (before after : Lists) (shows : Progress) : Type 0 where
-  pub stepped : Stepped old.session new.session before after shows
-  pub ending : is_ending old.session.stage ≡ true → EndsOn shows new.session.stage
+  pub stepped : Stepped old.caller new.caller before after shows
+  pub ending : is_ending old.caller ≡ true → EndsOn shows new.caller
+  pub asks : is_ending old.caller ≡ true → EndsBy old.caller new.caller shows
   pub work : new.work ≡ unanswered old.work shows
   pub held : new.held ≡ old.held
 

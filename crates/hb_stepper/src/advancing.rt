@@ -10,7 +10,7 @@ use hb_node::Nodes;
 use hb_types::{NoMemory, Text};
 
 impl Sessions {
-    /// Makes so many steps of a session, or fewer where its statement ends or waits; how many.
+    /// Makes so many steps of a session, or fewer where its statement or line ends or waits; how many.
     pub fn advance<N: Nodes>(
         &mut self,
         nodes: &mut N,

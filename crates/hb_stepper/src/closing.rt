@@ -13,16 +13,16 @@ use hb_node::Nodes;
 use hb_types::NoMemory;
 
 impl Seat {
-    /// Gives up its statement, or its transaction where it is between two.
+    /// Gives up what waits, or its transaction where it is between two statements.
     fn give_up(&mut self)
         requires open { open_now self.old ≡ true }
         requires stopped { going self.old ≡ false }
         ensures { SeatGivesUp self.old self.new }
     {
         if self.waits() {
-            self.session.abandon();
+            self.caller.abandon();
         } else {
-            self.session.close();
+            self.caller.close();
         }
     }
 }
@@ -37,8 +37,8 @@ fn note_given_up(waiters: &mut Vec<usize>, place: usize, waited: bool)
 }
 
 impl Sessions {
-    /// The end of a script: each session whose statement can go on runs to its end or to a wait, and those that wait are asked as after
-    /// each line; then each that has a transaction or a statement is rolled back.
+    /// The end of a script: each session that can go on runs to the end of its statement or line, or to a wait, and those that wait are
+    /// asked as after each line; then each that has a transaction, or something in progress, is rolled back.
     pub fn close_all<N: Nodes>(&mut self, nodes: &mut N) -> Result<(), NoMemory>
         ensures closed { OnOk result (Closed (running self.old (N.lists nodes.old)) (running self.new (N.lists nodes.new))) }
         ensures adds { Adds self.old.lines.items self.new.lines.items }
@@ -50,7 +50,7 @@ impl Sessions {
         Ok(())
     }
 
-    /// Runs each session on whose statement can go on.
+    /// Runs each session on that can go on.
     fn run_all<N: Nodes>(&mut self, nodes: &mut N) -> Result<(), NoMemory>
         ensures ran { OnOk result (InTurn RunsOn (running self.old (N.lists nodes.old)) (length self.old.seats.items) (running self.new (N.lists nodes.new))) }
         ensures stopped { OnOk result ((place : ℕ) → seat_is going self.new.seats.items place ≡ false) }
@@ -76,7 +76,7 @@ impl Sessions {
         Ok(())
     }
 
-    /// Rolls back each session that has a transaction or a statement.
+    /// Rolls back each session that has a transaction, or something in progress.
     fn roll_all_back<N: Nodes>(&mut self, nodes: &mut N) -> Result<(), NoMemory>
         requires { (place : ℕ) → seat_is going self.old.seats.items place ≡ false }
         ensures closed { OnOk result (InTurn IsClosed (running self.old (N.lists nodes.old)) (length self.old.seats.items) (running self.new (N.lists nodes.new))) }
@@ -106,7 +106,7 @@ impl Sessions {
         Ok(())
     }
 
-    /// Gives up the statement or the transaction of the session at a place.
+    /// Gives up what the session at a place waits with, or its transaction.
     fn give_up(&mut self, place: usize)
         requires open { seat_is open_now self.old.seats.items place ≡ true }
         requires stopped { seat_is going self.old.seats.items place ≡ false }

@@ -1,12 +1,14 @@
-// Why a statement isn't taken.
+// Why what is given isn't taken.
 
-/// Why a statement isn't taken.
+/// Why a statement or a line of pdrbal isn't taken.
 #[derive(Clone, Copy, Debug, PartialEq, Eq)]
 pub enum StepFault {
     /// There are 16 sessions already.
     Full,
-    /// A statement of the session is in progress.
+    /// A statement or a line of pdrbal of the session is in progress.
     Busy,
+    /// A line of pdrbal stands in an open transaction.
+    InTransaction,
     /// There is no transaction to end.
     NoTransaction,
     NoMemory,

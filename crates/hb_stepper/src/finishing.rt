@@ -1,4 +1,4 @@
-// A statement that runs to its end or to a wait.
+// A statement or a line of pdrbal that runs to its end or to a wait.
 ghost use Rattle.std.specs.Prelude.{◌≡◌, OnOk};
 ghost use Rattle.hb_node.specs.Lists.{Onward};
 ghost use Rattle.hb_stepper.specs.Adding.{Adds};
@@ -10,7 +10,7 @@ use hb_node::Nodes;
 use hb_types::{NoMemory, Text};
 
 impl Sessions {
-    /// Runs the statement of a session to its end or to a wait, if it can go on.
+    /// Runs the statement or the line of a session to its end or to a wait, if it can go on.
     pub fn finish<N: Nodes>(&mut self, nodes: &mut N, name: &Text) -> Result<(), NoMemory>
         ensures finished { OnOk result (Finished (running self.old (N.lists nodes.old)) name.now (running self.new (N.lists nodes.new))) }
         ensures adds { Adds self.old.lines.items self.new.lines.items }

@@ -8,7 +8,7 @@ ghost use Rattle.hb_stepper.specs.Running.{running};
 use crate::counts::BackEnds;
 use crate::seat::Seat;
 use crate::sessions::Sessions;
-use hb_session::Session;
+use hb_caller::Caller;
 use hb_types::{NoMemory, Text};
 use std::alloc::Global;
 
@@ -86,7 +86,7 @@ fn new_seat(alloc: Global, place: usize, back_ends: BackEnds) -> Seat
     ensures { IsFresh place result }
 {
     Seat {
-        session: Session::new(alloc, place as u8, back_ends.get()),
+        caller: Caller::new(alloc, place as u8, back_ends.get()),
         work: None,
         held: false,
     }

@@ -1,7 +1,7 @@
 // The sessions of a run.
 ghost use Rattle.std.specs.Prelude.{◌≡◌, ◌<◌, ◌≤◌, ◌++◌, ◌==◌, ℕ, true, false, not, filter, vec_len, vec_capacity, [], Some, None, IfOk, OnOk, OnErr};
 ghost use Rattle.hb_node.specs.Lists.{Lists, Onward};
-ghost use Rattle.hb_session.specs.declared.session.Progress.{Progress as Step};
+ghost use Rattle.hb_caller.specs.declared.caller.Progress.{Progress as Step};
 ghost use Rattle.hb_stepper.specs.Adding.{Adds};
 ghost use Rattle.hb_stepper.specs.Shown.{listed};
 ghost use Rattle.hb_stepper.specs.Waiters.{waiters_after};
@@ -69,7 +69,7 @@ impl Sessions {
         self.lines.as_slice()
     }
 
-    /// The session at a place, whose statement is in progress, asks one request.
+    /// The session at a place, with a statement or a line in progress, asks one request.
     pub(crate) fn step<N: Nodes>(&mut self, nodes: &mut N, place: usize) -> Result<(), NoMemory>
         requires { seat_is is_in_progress self.old.seats.items place ≡ true }
         ensures made { OnOk result ((shows : Step) × OneStep (running self.old (N.lists nodes.old)) (running self.new (N.lists nodes.new)) place shows) }
@@ -156,7 +156,7 @@ impl Sessions {
         Ok(None)
     }
 
-    /// Runs the session at a place to its end or to a wait, if its statement can go on.
+    /// Runs the session at a place to the end of its statement or line, or to a wait, if it can go on.
     pub(crate) fn run_out<N: Nodes>(&mut self, nodes: &mut N, place: usize) -> Result<(), NoMemory>
         ensures ran { OnOk result (RanOut (running self.old (N.lists nodes.old)) place (running self.new (N.lists nodes.new))) }
         ensures part { Made (running self.old (N.lists nodes.old)) (running self.new (N.lists nodes.new)) }

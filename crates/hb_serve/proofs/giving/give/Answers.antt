@@ -11,5 +11,5 @@ returns-in_err-taken-clause-goes g c = here
 pub returns-clause-gave : goal.returns-clause-gave
 returns-clause-gave g c =
     let P : Bool → Type 0 = λ b. GoesOn b c.args.name.now (running c.give.new.self (g.N.Nodes.lists c.args.nodes.now)) (running c.run_on.new.sessions (g.N.Nodes.lists c.run_on.new.nodes)) in
-    gave (running c.args.sessions.now (g.N.Nodes.lists c.args.nodes.now)) (running c.give.new.self (g.N.Nodes.lists c.args.nodes.now)) (running c.run_on.new.sessions (g.N.Nodes.lists c.run_on.new.nodes)) c.args.name.now c.args.statement c.args.held
+    gave (running c.args.sessions.now (g.N.Nodes.lists c.args.nodes.now)) (running c.give.new.self (g.N.Nodes.lists c.args.nodes.now)) (running c.run_on.new.sessions (g.N.Nodes.lists c.run_on.new.nodes)) c.args.name.now c.args.work c.args.held
     c.in_ok-taken.taken c.give.result c.in_ok-taken.ensures (c.give.ensures.given (g.N.Nodes.lists c.args.nodes.now)) (subst P c.goes_on.ensures c.in_ok-run_on.ensures.on)
