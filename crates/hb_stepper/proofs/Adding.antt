@@ -7,7 +7,7 @@ use Rattle.hb_caller.specs.declared.caller.Progress.{Progress}
 use Rattle.hb_stepper.specs.declared.fault.StepFault.{StepFault}
 use Rattle.hb_stepper.specs.declared.fault.StepFault.TheVariants as fault
 use Rattle.hb_stepper.specs.Adding.{Adds}
-use Rattle.hb_stepper.specs.Giving.{Given, GivenAt, NamedInPart, Refuses, given_line, reply_of}
+use Rattle.hb_stepper.specs.Giving.{Given, NamedInPart, Refuses, given_line, reply_of}
 use Rattle.hb_stepper.specs.Names.{Named}
 use Rattle.hb_stepper.specs.Running.{Running}
 use Rattle.hb_stepper.specs.Steps.{OneStep, Made, at_start, made, lines_of, line_of}

@@ -1,5 +1,5 @@
 -- The sessions in turn, at a script's end.
-use Rattle.std.proofs.Common.{◌≡◌, ◌≢◌, ℕ, ◌+◌, ◌<◌, ◌≤◌, Bool, false, List, length, ap, ◌∙◌, sym, subst, refl, inl, inr, ◌⊎◌, below_more, arith}
+use Rattle.std.proofs.Common.{◌≡◌, ◌≢◌, ℕ, ◌+◌, ◌<◌, ◌≤◌, Bool, false, List, length, ap, ◌∙◌, subst, refl, inl, inr, ◌⊎◌, below_more, arith}
 use Rattle.std.specs.Prelude.{Option, slice_get}
 use Rattle.std.proofs.lemmas.Bool.{cases_lt}
 use Rattle.std.proofs.lemmas.List.{length-set}

@@ -1,11 +1,10 @@
 -- Steps of one session leave the others, and a session that can't go on stays so.
-use Rattle.std.proofs.Common.{◌≡◌, ◌≢◌, ◌⊎◌, ℕ, Bool, true, false, not, ◌&&◌, ◌||◌, List, ap, ◌∙◌, sym, subst, refl, inl, inr}
+use Rattle.std.proofs.Common.{◌≡◌, ◌≢◌, ◌⊎◌, ℕ, Bool, true, false, not, ◌&&◌, ◌||◌, List, ap, ◌∙◌, sym, refl, inl, inr}
 use Rattle.std.specs.Prelude.{Option, Some, None, slice_get}
 use Rattle.std.proofs.lemmas.Bool.{cases_eq, false≢true}
 use Rattle.hb_caller.specs.Calling.{in_transaction}
 use Rattle.hb_caller.specs.declared.caller.Progress.{Progress}
 use Rattle.hb_stepper.specs.declared.seat.Seat.{Seat}
-use Rattle.hb_stepper.specs.Finishing.{RanOut}
 use Rattle.hb_stepper.specs.Running.{Running, seat_is, is_seat, busy, waits, going, asked, open_now}
 use Rattle.hb_stepper.specs.Steps.{OneStep, Ran, not_yet, ran, Asked, nobody, another, Round, Rounds, no_round, round, Resumed}
 use Rattle.hb_stepper.proofs.Seats.{set_elsewhere}

@@ -1,5 +1,5 @@
 -- The end of a script: what can go on runs out, and then what is open is rolled back.
-use Rattle.std.specs.Prelude.{◌≡◌, ◌⊎◌, ℕ, ◌+◌, true, false, List, [], ◌∷◌, ◌++◌, length, set, Some, slice_get}
+use Rattle.std.specs.Prelude.{◌≡◌, ◌⊎◌, ℕ, ◌+◌, true, false, [], ◌∷◌, ◌++◌, length, set, Some, slice_get}
 use Rattle.hb_model.specs.declared.reply.Reply.TheVariants as reply
 use Rattle.hb_caller.specs.Steps.{GivesUp as CallerGivesUp, Abandons, Closes}
 use Rattle.hb_stepper.specs.declared.seat.Seat.{Seat}

@@ -1,4 +1,4 @@
-use Rattle.std.proofs.Common.{◌≡◌, ◌≤◌, ◌<◌, ◌+◌, length, ◌∙◌, refl, arith}
+use Rattle.std.proofs.Common.{◌≡◌, ◌≤◌, length, ◌∙◌, refl, arith}
 use Rattle.hb_node.specs.Lists.{here}
 use Rattle.hb_stepper.specs.Closing.{IsClosed, before_all, one_more}
 use Rattle.hb_stepper.specs.Running.{running, open_now}

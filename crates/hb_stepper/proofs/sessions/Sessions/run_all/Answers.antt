@@ -1,4 +1,4 @@
-use Rattle.std.proofs.Common.{◌≡◌, ◌≤◌, ◌<◌, ◌+◌, length, arith}
+use Rattle.std.proofs.Common.{◌≡◌, ◌≤◌, length, arith}
 use Rattle.hb_node.specs.Lists.{here}
 use Rattle.hb_stepper.specs.Closing.{RunsOn, before_all, one_more}
 use Rattle.hb_stepper.specs.Running.{running, going}
